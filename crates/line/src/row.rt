@@ -1,0 +1,13 @@
+// Rows that stand one after the other.
+ghost use mathlib.Core.Path.{_≡_};
+ghost use Prim.Native.Nat.{_+_, _*_, _≤_};
+ghost use lib.ListN.{length, take, drop};
+
+// Row e, where rows of so many elements each stand one after the other.
+pub(crate) fn row_of<T>(rows: &[T], width: usize, e: usize) -> &[T]
+    requires { ⌜ e * width + width ≤ length (now rows) ⌝ }
+    ensures { λ r. ⌜ now r ≡ take width (drop (e * width) (now (rows .entry))) ⌝ }
+{
+    let from = e * width;
+    &rows[from..from + width]
+}

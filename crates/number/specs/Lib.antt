@@ -1,0 +1,4 @@
+pub mod Sum
+pub mod First
+pub mod Divisors
+pub mod Laws
