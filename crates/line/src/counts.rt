@@ -15,14 +15,14 @@ use crate::size::Size;
 
 impl Size {
     // How many words a part's row takes.
-    pub fn row_words(self) -> usize
+    pub(crate) fn row_words(self) -> usize
         ensures { λ r. ⌜ r ≡ across 64 (self .farms) ⌝ }
     {
         (self.farms as usize).div_ceil(64)
     }
 
     // How many bytes a part's row takes.
-    pub fn row_bytes(self) -> usize
+    pub(crate) fn row_bytes(self) -> usize
         ensures { λ r. ⌜ r ≡ across 8 (self .farms) ⌝ }
     {
         (self.farms as usize).div_ceil(8)

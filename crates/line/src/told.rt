@@ -1,8 +1,10 @@
 // How a refusal is told: by its number and its place.
 ghost use mathlib.Core.Path.{_≡_};
-ghost use Rattle.line.specs.Refusals.{lent-place, number-of, place-of};
+ghost use Rattle.std.specs.declared.option.Option.the-variants.{Some};
+ghost use Rattle.line.specs.Refusals.{lent-place, number-of, place-of, told};
 use crate::refusal::Lent;
 use crate::refusal::Refusal;
+use std::fmt;
 
 impl Lent {
     // Its place among what is lent.
@@ -14,6 +16,7 @@ impl Lent {
 }
 
 impl Refusal {
+    // The number of the case.
     pub fn number(self) -> u8
         ensures { λ r. ⌜ r ≡ number-of self ⌝ }
     {
@@ -31,6 +34,7 @@ impl Refusal {
         }
     }
 
+    // Where it was found.
     pub fn place(self) -> usize
         ensures { λ r. ⌜ r ≡ place-of self ⌝ }
     {
@@ -46,5 +50,15 @@ impl Refusal {
             | Refusal::Row(at)
             | Refusal::Sum(at) => at,
         }
+    }
+}
+
+pub impl fmt::Display for Refusal as RefusalDisplay {
+    ghost shown = { λ r. Some (told r) };
+
+    fn fmt<W: fmt::Write>(&self, f: &mut fmt::Formatter<W>) -> fmt::Result {
+        let number = self.number();
+        let place = self.place();
+        write!(f, "refused {number} at {place}")
     }
 }
