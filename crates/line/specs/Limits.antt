@@ -1,4 +1,4 @@
--- The largest line. No theorem opens these: what is proved holds for other limits too.
+-- How large things may become.
 use Prim.Native.Nat.{ℕ}
 
 -- the most farms that a line has
@@ -8,3 +8,7 @@ most-farms = 400
 -- the most parts that a line has
 unfoldable pub most-parts : ℕ
 most-parts = 900
+
+-- a part's costs of a year stay below this many cents
+unfoldable pub costs-end : ℕ
+costs-end = 1000000000000

@@ -35,7 +35,7 @@ greatest-of : (a b : ℕ) → (d : ℕ) × Greatest a b d
 greatest-of a b = greatest-below (suc b) a b (omega arith)
 
 -- that of c times both numbers is c times that of the two
-greatest-times : (a b d c : ℕ) → Greatest a b d → Greatest (c * a) (c * b) (c * d)
+pub greatest-times : (a b d c : ℕ) → Greatest a b d → Greatest (c * a) (c * b) (c * d)
 greatest-times a b d zero g = rw (zero-mul a, zero-mul b, zero-mul d) (greatest-zero 0)
 greatest-times a b d (suc k) g =
     let c = suc k in
@@ -55,17 +55,20 @@ greatest-times a b d (suc k) g =
 pub least-zero : (b : ℕ) → Least 0 b 0
 least-zero b = record { left = dvd-zero 0; right = dvd-zero b; least = λ c l r. l }
 
+-- crosswise, a and b keep their products when both are divided by a common divisor
+pub divided-cross : (a b d : ℕ) → d ∣ a → d ∣ b → a / d * b ≡ a * (b / d)
+divided-cross a b d l r =
+    ap (λ x. a / d * x) (sym (mul-div-cancel' d r)) ∙ sym (mul-assoc (a / d) d (b / d)) ∙ ap (λ x. x * (b / d)) (div-mul-cancel d l)
+
 -- that of a and b is a divided by the greatest common divisor, times b
 pub least-from : (a b d : ℕ) → 0 < a → Greatest a b d → Least a b (a / d * b)
 least-from a b d pos g =
     let k = a / d in
     let whole : d * (k * b) ≡ a * b = sym (mul-assoc d k b) ∙ ap (λ x. x * b) (mul-div-cancel' d (g .left)) in
-    let other : a * (b / d) ≡ k * b =
-    ap (λ x. x * (b / d)) (sym (div-mul-cancel d (g .left))) ∙ mul-assoc k d (b / d) ∙ ap (λ x. k * x) (mul-div-cancel' d (g .right)) in
     let up : (c : ℕ) → a ∣ c → b ∣ c → a * b ∣ c * d =
     λ c l r. greatest-times a b d c g .greatest (a * b) (rw (mul-comm c a) (mul-dvd-mul-left b a r)) (mul-dvd-mul-right a l b) in
     record {
-      left = subst (λ x. a ∣ x) other (dvd-mul-right a (b / d));
+      left = rw (divided-cross a b d (g .left) (g .right)) (dvd-mul-right a (b / d));
       right = dvd-mul-left b k;
       least = λ c l r. dvd-of-mul-dvd-mul-left (k * b) (pos-of-dvd-of-pos (g .left) pos) (rw (whole, mul-comm d c) (up c l r));
     }
@@ -76,6 +79,15 @@ least-of zero b = (0, least-zero b)
 least-of (suc a) b =
     let g = greatest-of (suc a) b in
     (suc a / g .0 * b, least-from (suc a) b (g .0) (zero-lt-suc a) (g .1))
+
+-- the greatest common divisor is above 0 if the second number is
+pub greatest-pos : (a b d : ℕ) → 0 < b → Greatest a b d → 0 < d
+greatest-pos a b d h g = pos-of-dvd-of-pos (g .right) h
+
+-- the greatest common divisor of two numbers below n is below n
+pub greatest-fits : (a b d n : ℕ) → Greatest a b d → a < n → b < n → d < n
+greatest-fits zero b d n g h k = subst (λ x. x < n) (dvd-antisymm (g .greatest b (dvd-zero b) (dvd-refl b)) (g .right)) k
+greatest-fits (suc a) b d n g h k = omega (arith, le-of-dvd (zero-lt-suc a) (g .left))
 
 -- a divisor of a number above 0 is at most that number
 pub no-greater : No-greater

@@ -1,3 +1,9 @@
 pub mod Sums
 pub mod Firsts
 pub mod Euclid
+pub mod Integers
+pub mod Fractions
+pub mod FractionSums
+pub mod Crosswise
+pub mod LowestTerms
+pub mod Reduced

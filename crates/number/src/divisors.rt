@@ -3,8 +3,8 @@ ghost use Prim.Native.Nat.{ℕ, _^_, _<_, _≤_};
 ghost use Rattle.std.specs.Options.{Cases as BySome};
 ghost use Rattle.number.specs.Divisors.{Greatest, Least, No-greater, No-smaller, Only-one, Always-one};
 
-// The greatest common divisor, by Euclid: take the remainder until nothing is left.
-pub fn gcd(a: u64, b: u64) -> u64
+// The greatest common divisor of wide numbers, by Euclid: take the remainder until nothing is left.
+pub(crate) fn wide_gcd(a: u128, b: u128) -> u128
     ensures { λ r. ⌜ Greatest a b r ⌝ }
 {
     let mut d = a;
@@ -15,6 +15,13 @@ pub fn gcd(a: u64, b: u64) -> u64
         rest = next;
     }
     d
+}
+
+// The greatest common divisor, which is no wider than the two numbers.
+pub fn gcd(a: u64, b: u64) -> u64
+    ensures { λ r. ⌜ Greatest a b r ⌝ }
+{
+    wide_gcd(a as u128, b as u128) as u64
 }
 
 // The least common multiple if it fits 64 bits, and None if it does not.

@@ -1,8 +1,7 @@
-use Rattle.number.proofs.Euclid.{greatest-zero, greatest-rest}
+use mir.Facts.{fits-of-lt}
+use native.Mathlib.Omega.{arith}
+use Rattle.number.proofs.Euclid.{greatest-fits}
 use Rattle.number.proofs.divisors.gcd.Needs as need
 
-pub loop-rest-again : need.loop-rest-again
-loop-rest-again c = λ g h. c .loop-rest .inv g (greatest-rest _ _ g h)
-
-pub returns : need.returns
-returns c = c .loop-rest .inv _ (rw (c .loop-rest-test .left) (greatest-zero _))
+pub cast-result : need.cast-result
+cast-result c = fits-of-lt (greatest-fits _ _ _ _ (c .wide-gcd .ensures) (omega arith) (omega arith))

@@ -1,6 +1,6 @@
 use Prim.Native.Nat.{ℕ}
 use Rattle.number.specs.Divisors.{Greatest}
-use Rattle.number.proofs.divisors.gcd.Given as given
+use Rattle.number.proofs.divisors.wide_gcd.Given as given
 
 -- what is the greatest common divisor of the two that are left is that of the two that were given
 abbrev pub Inv-loop-rest : given.InvT-loop-rest

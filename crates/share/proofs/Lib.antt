@@ -1,0 +1,12 @@
+pub mod Building
+pub mod Leasts
+pub mod Dues
+pub mod Lists
+pub mod Refusing
+pub mod Weights
+pub mod Fairness
+pub mod Groups
+pub mod Once
+pub mod Scales
+pub mod Promised
+pub mod Wholes

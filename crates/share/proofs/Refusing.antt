@@ -1,0 +1,55 @@
+-- What is refused, test by test.
+use mathlib.Core.Bool.{Bool, true, false, cond}
+use mathlib.Core.List.{List}
+use mathlib.Core.Path.{_≡_, refl, _∙_}
+use Prim.Native.Nat.{ℕ, _<_, _≤_}
+use native.Mathlib.Omega.{arith}
+use lib.ListN.{length}
+use Rattle.std.specs.declared.option.Option.{Option}
+use Rattle.std.specs.declared.option.Option.the-variants.{Some, None}
+use Rattle.std.proofs.shelf.Tests.{ltb-false, leb-false, lt-ltb, le-ltb, lt-leb, le-leb}
+use Rattle.number.proofs.Firsts.{each-fails}
+use Rattle.line.specs.declared.refusal.Lent.the-variants.{Accounts, Sheet}
+use Rattle.line.specs.declared.refusal.Refusal.{Refusal}
+use Rattle.line.specs.declared.refusal.Refusal.the-variants.{Unknown, Short}
+use Rattle.line.specs.Limits.{costs-end}
+use Rattle.line.specs.Line.{Line}
+use Rattle.share.specs.Answer.{at, too-large, costs-refused, shares-refused, farm-refused, parts-refused}
+
+-- a test that refuses has failed where nothing is refused
+passed : (t : Bool) (e : Refusal) (x : Option Refusal) → cond t (Some e) x ≡ None → (t ≡ false) × (x ≡ None)
+passed true e x h = let z : _≡_ {A = ℕ} 0 1 = cc in absurd (omega arith)
+passed false e x h = (refl, h)
+
+-- costs that are not refused are enough, and none is too large
+pub costs-fine : (m : ℕ) (costs : List ℕ) → costs-refused m costs ≡ None → (m ≤ length costs) × ((e : ℕ) → e < m → at costs e < costs-end)
+unfolding costs-refused
+costs-fine m costs h =
+    let p = passed _ _ _ h in
+    let q = passed _ _ _ (p .1) in
+    (ltb-false _ _ (p .0), λ e l. leb-false _ _ (each-fails m (too-large costs) (q .0) e l))
+
+module _ (l : Line) (costs : List ℕ) where
+  pub shares-short : (lent : ℕ) → lent < l .farms → shares-refused l costs lent ≡ Some (Short Accounts)
+  unfolding shares-refused
+  shares-short lent h = simp (lt-ltb _ _ h)
+
+  pub shares-on : (lent : ℕ) → l .farms ≤ lent → shares-refused l costs lent ≡ costs-refused (l .parts) costs
+  unfolding shares-refused
+  shares-on lent h = simp (le-ltb _ _ h)
+
+  pub farm-unknown : (i : ℕ) → l .farms ≤ i → farm-refused l costs i ≡ Some (Unknown i)
+  unfolding farm-refused
+  farm-unknown i h = simp (le-leb _ _ h)
+
+  pub farm-on : (i : ℕ) → i < l .farms → farm-refused l costs i ≡ costs-refused (l .parts) costs
+  unfolding farm-refused
+  farm-on i h = simp (lt-leb _ _ h)
+
+  pub parts-short : (i lent : ℕ) → lent < l .parts → parts-refused l costs i lent ≡ Some (Short Sheet)
+  unfolding parts-refused
+  parts-short i lent h = simp (lt-ltb _ _ h)
+
+  pub parts-on : (i lent : ℕ) → l .parts ≤ lent → parts-refused l costs i lent ≡ farm-refused l costs i
+  unfolding parts-refused
+  parts-on i lent h = simp (le-ltb _ _ h)

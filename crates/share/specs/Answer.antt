@@ -1,0 +1,85 @@
+-- What the calls that compute shares answer, and what lent memory holds after. These are definitions: nothing is assumed.
+use mathlib.Core.Bool.{Bool, cond}
+use mathlib.Core.List.{List}
+use mathlib.Core.Path.{_≡_}
+use Prim.Native.Nat.{ℕ, _^_, _<_, _≤_}
+use lib.Dec.{leb, ltb}
+use lib.ListN.{length, getD, take, drop}
+use Rattle.std.specs.declared.option.Option.{Option}
+use Rattle.std.specs.declared.option.Option.the-variants.{Some, None}
+use Rattle.std.specs.declared.result.Result.{Result}
+use Rattle.std.specs.declared.result.Result.the-variants.{Ok, Err}
+use Rattle.number.specs.First.{first, some}
+use Rattle.number.specs.Fraction.{_≈_}
+use Rattle.number.specs.Reduced.{value}
+use Rattle.number.specs.declared.fraction.Fraction.{Fraction as Reduced}
+use Rattle.line.specs.declared.refusal.Lent.the-variants.{Accounts, Costs as TheCosts, Sheet}
+use Rattle.line.specs.declared.refusal.Refusal.{Refusal}
+use Rattle.line.specs.declared.refusal.Refusal.the-variants.{Unknown, Amount, Short}
+use Rattle.line.specs.Limits.{costs-end}
+use Rattle.line.specs.Line.{Line}
+use Rattle.share.specs.declared.form.Form.{Form}
+use Rattle.share.specs.declared.form.Form.the-variants.{Scaled, ByPart}
+use Rattle.share.specs.declared.form.PartShare.{PartShare}
+use Rattle.share.specs.Cost.{Costs}
+use Rattle.share.specs.Fair.{Fair-once}
+use Rattle.share.specs.Least.{Scaling}
+use Rattle.share.specs.Listed.{listed, total}
+use Rattle.share.specs.Rule.{Rule}
+use Rattle.share.specs.Shares.{Shares}
+
+-- the numbers of a lent row
+abbrev pub at : List ℕ → ℕ → ℕ
+at xs i = getD xs i 0
+
+-- whether a cost is too large
+abbrev pub too-large : List ℕ → ℕ → Bool
+too-large costs e = leb costs-end (at costs e)
+
+-- what is wrong with the costs of m parts: there are too few, or one is too large
+unfoldable pub costs-refused : ℕ → List ℕ → Option Refusal
+costs-refused m costs =
+    cond (ltb (length costs) m) (Some (Short TheCosts))
+    (cond (some m (too-large costs)) (Some (Amount (first m (too-large costs)))) None)
+
+-- shares of all farms: too few numbers are lent for them, or the costs are refused
+unfoldable pub shares-refused : Line → List ℕ → ℕ → Option Refusal
+shares-refused l costs lent = cond (ltb lent (l .farms)) (Some (Short Accounts)) (costs-refused (l .parts) costs)
+
+-- a farm's share: there is no such farm, or the costs are refused
+unfoldable pub farm-refused : Line → List ℕ → ℕ → Option Refusal
+farm-refused l costs i = cond (leb (l .farms) i) (Some (Unknown i)) (costs-refused (l .parts) costs)
+
+-- a farm's share part by part: too few rows are lent for it, or it is refused as a farm's share is
+unfoldable pub parts-refused : Line → List ℕ → ℕ → ℕ → Option Refusal
+parts-refused l costs i lent = cond (ltb lent (l .parts)) (Some (Short Sheet)) (farm-refused l costs i)
+
+-- shares over one scale: the numbers are what every fair rule gives, and all are below 2^63
+pub record Over (l : Line) (costs before after : List ℕ) (s : ℕ) : Type 0 where
+  pub shares : Shares l (at costs) s (at after)
+  pub small : (i : ℕ) → i < l .farms → at after i < 2 ^ 63
+  pub rest : drop (l .farms) after ≡ drop (l .farms) before
+
+-- what the call for the shares of all farms answers and leaves in the numbers that are lent for them
+abbrev pub Answered : Line → (costs before after : List ℕ) → Result Form Refusal → Type 0
+Answered l costs before after (Ok (Scaled s)) = Scaling l (at costs) (Some s) × Over l costs before after s
+Answered l costs before after (Ok ByPart) = Scaling l (at costs) None × (after ≡ before)
+Answered l costs before after (Err e) = after ≡ before
+
+-- a farm's share part by part: the first k rows are its parts that cost something, and what they come to is what every fair rule gives
+pub record Rows (l : Line) (costs : List ℕ) (i : ℕ) (before after : List PartShare) (k : ℕ) : Type 0 where
+  pub rows : take k after ≡ listed l (at costs) i (l .parts)
+  pub count : k ≡ length (listed l (at costs) i (l .parts))
+  pub fair : (rule : Rule) → Fair-once l rule → total (listed l (at costs) i (l .parts)) ≈ rule (at costs) i
+  pub rest : drop k after ≡ drop k before
+
+-- what the call for it answers and leaves in the rows that are lent
+abbrev pub Told : Line → List ℕ → ℕ → (before after : List PartShare) → Result ℕ Refusal → Type 0
+Told l costs i before after (Ok k) = Rows l costs i before after k
+Told l costs i before after (Err e) = after ≡ before
+
+-- a farm's share as one fraction, where the scale is below the limit
+abbrev pub Given : Line → List ℕ → ℕ → Result (Option Reduced) Refusal → Type 0
+Given l costs i (Ok (Some f)) = ((s : ℕ) × Scaling l (at costs) (Some s)) × ((rule : Rule) → Fair-once l rule → value f ≈ rule (at costs) i)
+Given l costs i (Ok None) = Scaling l (at costs) None
+Given l costs i (Err e) = Unit {0}

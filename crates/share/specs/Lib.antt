@@ -1,0 +1,14 @@
+pub mod Cost
+pub mod Weight
+pub mod Rule
+pub mod Fair
+pub mod Group
+pub mod Scale
+pub mod Whole
+pub mod Shares
+pub mod Theorems
+pub mod Limits
+pub mod Least
+pub mod Listed
+pub mod Answer
+pub mod Asked

@@ -1,0 +1,7 @@
+// Exact shares of a year's costs.
+pub mod costs;
+pub mod form;
+pub mod parts;
+pub mod scale;
+pub mod shares;
+pub mod theorems;
