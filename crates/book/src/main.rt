@@ -1,20 +1,22 @@
-// Books a row of bookings on a line, and prints the accounts.
-mod report;
+// Reads a line, and prints its accounts or why it is refused.
+mod accounts;
 mod trouble;
 
-use line::limits::MOST_WORDS;
-use line::read::read_line;
-use report::opening;
+use accounts::accounts;
+use line::told::RefusalDisplay;
 use std::env;
 use std::fs;
 use std::io::Write;
 use trouble::Trouble;
+use trouble::TroubleDisplay;
 use trouble::TroubleFromAlloc;
-use trouble::TroubleFromIo;
 
 // The names of the two files.
 fn names(rt: &LibcRuntime) -> Result<(String, String), Trouble> {
-    let mut args = env::args(rt)?;
+    let mut args = match env::args(rt) {
+        Ok(args) => args,
+        Err(why) => return Err(Trouble::Arguments(why)),
+    };
     let _ = args.next();
     let Some(line) = args.next() else {
         return Err(Trouble::Usage);
@@ -36,27 +38,44 @@ fn contents(rt: &LibcRuntime, name: String) -> Result<Vec<u8>, Trouble> {
     }
 }
 
-fn run(rt: &LibcRuntime) -> Result<(), Trouble> {
+// Writes a text to standard output, in one piece.
+fn print(rt: &LibcRuntime, text: String) -> Result<(), Trouble> {
+    match rt.stdout().write_all(text.as_bytes()) {
+        Ok(()) => Ok(()),
+        Err(why) => Err(Trouble::Output(why)),
+    }
+}
+
+// Tells the accounts, or why the line is refused; and whether it was taken.
+fn run(rt: &LibcRuntime) -> Result<bool, Trouble> {
+    let heap = rt.alloc();
     let (line, bookings) = names(rt)?;
     let line = contents(rt, line)?;
     let bookings = contents(rt, bookings)?;
-    let mut words = vec![in rt.alloc(); 0u64; MOST_WORDS]?;
-    let size = match read_line(line.as_slice(), words.as_mut_slice()) {
-        Ok(size) => size,
-        Err(refusal) => return Err(Trouble::Refused(refusal)),
-    };
-    if !bookings.is_empty() {
-        return Err(Trouble::Bookings);
+    match accounts(heap, line.as_slice())? {
+        Err(refusal) => {
+            print(rt, format!(heap, "{refusal}\n")?)?;
+            Ok(false)
+        }
+        Ok(_) if !bookings.is_empty() => Err(Trouble::Bookings),
+        Ok(text) => {
+            print(rt, text)?;
+            Ok(true)
+        }
     }
-    let text = opening(rt.alloc(), size.farms)?;
-    rt.stdout().write_all(text.as_bytes())?;
-    Ok(())
 }
 
-fn main(rt: LibcRuntime) -> Result<(), Trouble> {
-    let done = run(&rt);
-    if let Err(trouble) = &done {
-        trouble.tell(&rt);
+// The program ends with status 1.
+#[derive(Drop)]
+struct Failed;
+
+fn main(rt: LibcRuntime) -> Result<(), Failed> {
+    match run(&rt) {
+        Ok(true) => Ok(()),
+        Ok(false) => Err(Failed),
+        Err(trouble) => {
+            let _ = rt.eprintln(trouble);
+            Err(Failed)
+        }
     }
-    done
 }

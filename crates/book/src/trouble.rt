@@ -1,6 +1,4 @@
-// Why nothing was booked.
-use line::refusal::Refusal;
-use line::told::RefusalDisplay;
+// Why nothing was told of a line.
 use std::alloc::AllocError;
 use std::fmt;
 use std::io;
@@ -9,16 +7,16 @@ use std::io;
 pub enum Trouble {
     // The arguments are not the names of two files.
     Usage,
+    // The arguments cannot be read.
+    Arguments(io::Error),
     // A file cannot be read.
     Unreadable(String, io::Error),
     // There is no memory left.
     Memory,
-    // The arguments cannot be read, or standard output cannot be written.
-    Stream(io::Error),
-    // There are bookings, and they cannot be booked yet.
+    // There are bookings.
     Bookings,
-    // The line was refused.
-    Refused(Refusal),
+    // Standard output cannot be written.
+    Output(io::Error),
 }
 
 pub impl From<AllocError> for Trouble as TroubleFromAlloc {
@@ -27,34 +25,20 @@ pub impl From<AllocError> for Trouble as TroubleFromAlloc {
     }
 }
 
-pub impl From<io::Error> for Trouble as TroubleFromIo {
-    fn from(why: io::Error) -> Trouble {
-        Trouble::Stream(why)
-    }
-}
-
 pub impl fmt::Display for Trouble as TroubleDisplay {
     fn fmt<W: fmt::Write>(&self, f: &mut fmt::Formatter<W>) -> fmt::Result {
         match self {
             Trouble::Usage => write!(f, "usage: book LINE BOOKINGS"),
-            Trouble::Unreadable(name, why) => write!(f, "book: cannot read {name}: {why}"),
+            Trouble::Arguments(why) => write!(f, "book: cannot read the arguments: {why}"),
+            Trouble::Unreadable(name, why) => write!(f, "book: cannot read {name:?}: {why}"),
             Trouble::Memory => write!(f, "book: out of memory"),
-            Trouble::Stream(why) => write!(f, "book: {why}"),
-            Trouble::Bookings => write!(
-                f,
-                "book: bookings cannot be booked yet, only an empty file"
-            ),
-            Trouble::Refused(refusal) => write!(f, "{refusal}"),
+            Trouble::Bookings => {
+                write!(
+                    f,
+                    "book: BOOKINGS must be empty: bookings cannot be booked yet"
+                )
+            }
+            Trouble::Output(why) => write!(f, "book: cannot write: {why}"),
         }
-    }
-}
-
-impl Trouble {
-    // Tells a refusal on standard output, and anything else on standard error.
-    pub fn tell(&self, rt: &LibcRuntime) {
-        let _ = match self {
-            Trouble::Refused(refusal) => rt.println(refusal),
-            other => rt.eprintln(other),
-        };
     }
 }

@@ -1,16 +1,11 @@
 -- The answer to bytes, step by step.
-use mathlib.Core.Bool.{Bool, true, false, cond}
-use mathlib.Core.List.{List, _++_}
-use mathlib.Core.Path.{_≡_, refl, sym, ap, _∙_}
+use mathlib.Core.List.{List}
+use mathlib.Core.Path.{_≡_, ap}
 use Prim.Native.Nat.{ℕ, _*_, _<_, _≤_}
-use native.Mathlib.Omega.{arith}
-use lib.Dec.{ltb}
 use lib.ListN.{length, drop}
-use Rattle.std.specs.Results.{isOk}
-use Rattle.std.specs.declared.result.Result.{Result}
 use Rattle.std.specs.declared.result.Result.the-variants.{Ok, Err}
 use Rattle.std.proofs.shelf.Tests.{le-ltb, lt-ltb}
-use Rattle.number.specs.First.{first, some}
+use Rattle.number.specs.First.{first}
 use Rattle.line.specs.declared.refusal.Lent.the-variants.{Line as TheLine}
 use Rattle.line.specs.declared.refusal.Refusal.{Refusal}
 use Rattle.line.specs.declared.refusal.Refusal.the-variants.{Users, Short}

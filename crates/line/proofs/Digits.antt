@@ -3,17 +3,16 @@ use mathlib.Core.Bool.{Bool, true, false}
 use mathlib.Core.Logic.{⊎-elim}
 use mathlib.Core.Path.{_≡_, refl, sym, ap, ap₂, subst, _∙_}
 use Prim.Native.Nat.{ℕ, zero, suc, _+_, _-_, _*_, _/_, _%_, _^_, _<_, _≤_}
-use native.Mathlib.Nat.{pow-suc, mul-assoc, mod-eq-of-lt, zero-div, div-eq-of-lt, lt-of-lt-of-le, mul-le-mul-right, mul-zero, zero-mul, add-comm}
+use native.Mathlib.Nat.{pow-suc, mul-assoc, mod-eq-of-lt, zero-div, mul-le-mul-right, mul-zero, zero-mul, add-comm}
 use native.Mathlib.Omega.{arith}
 use lib.Dec.{eqb, ltb}
-use lib.Pow.{pow-mono}
 use Rattle.std.proofs.shelf.Bits.{mod-pow-add, pow-add, shr-shr, shr-high, shr-split, shr-below, div-mul-add, mod-mul-add}
 use Rattle.std.proofs.shelf.Tests.{cases-eq, cases-lt, cases-bool, both-ways, ltb-true, lt-ltb, le-ltb}
 use Rattle.std.proofs.shelf.Ways.{tells}
 use Rattle.number.specs.First.{first, some}
 use Rattle.number.specs.Sum.{sum, one}
 use Rattle.number.proofs.Firsts.{first-passes, each-fails}
-use Rattle.number.proofs.Sums.{sum-same, sum-zero}
+use Rattle.number.proofs.Sums.{one-most, sum-same, sum-zero}
 use Rattle.line.specs.Rows.{has}
 
 -- 1 where the bit is set, and 0 where not, is the bit
@@ -30,10 +29,6 @@ has-one false x e = ap (λ y. eqb y 1) e
 -- no bit of 0 is set
 pub has-none : (i : ℕ) → has 0 i ≡ false
 has-none i = ap (λ x. eqb (x % 2) 1) (zero-div (2 ^ i))
-
--- no bit is set from the width on
-pub has-past : (w v i : ℕ) → v < 2 ^ w → w ≤ i → has v i ≡ false
-has-past w v i h l = ap (λ x. eqb (x % 2) 1) (div-eq-of-lt (lt-of-lt-of-le h (pow-mono l)))
 
 -- the bits of a number shifted down
 pub has-shift : (v s i : ℕ) → has (v / 2 ^ s) i ≡ has v (s + i)
@@ -72,11 +67,7 @@ from-bits w v f h e =
 pub digit-lt : (w : ℕ) (f : ℕ → Bool) → sum w (λ j. one (f j) * 2 ^ j) < 2 ^ w
 unfolding sum
 digit-lt zero f = omega arith
-digit-lt (suc w) f = omega (arith, digit-lt w f, pow-suc 2 w, mul-le-mul-right (2 ^ w) (most (f w)))
-  where
-    most : (b : Bool) → one b ≤ 1
-    most true = omega arith
-    most false = omega arith
+digit-lt (suc w) f = omega (arith, digit-lt w f, pow-suc 2 w, mul-le-mul-right (2 ^ w) (one-most (f w)))
 
 -- and each is a bit of it
 pub has-digit : (w : ℕ) (f : ℕ → Bool) (i : ℕ) → i < w → has (sum w (λ j. one (f j) * 2 ^ j)) i ≡ f i

@@ -2,16 +2,16 @@
 use mathlib.Core.Bool.{Bool, true, false, not, _||_}
 use mathlib.Core.List.{List}
 use mathlib.Core.Logic.{⊎-elim}
-use mathlib.Core.Path.{_≡_, refl, sym, ap, ap₂, _∙_}
+use mathlib.Core.Path.{_≡_, sym, ap, ap₂, _∙_}
 use Prim.Native.Nat.{ℕ, _+_, _-_, _*_, _/_, _%_, _^_, _<_, _≤_}
 use native.Mathlib.Omega.{arith}
 use lib.Dec.{ltb}
 use lib.ListN.{length, getD}
 use Rattle.std.specs.Orderings.{When}
 use Rattle.std.proofs.shelf.Bits.{shr-shr}
-use Rattle.std.proofs.shelf.Tests.{both-ways, cases-lt, ltb-true, lt-ltb, le-ltb}
+use Rattle.std.proofs.shelf.Tests.{both-ways, cases-lt, ltb-true, lt-ltb}
 use Rattle.std.proofs.shelf.Ways.{tells}
-use Rattle.number.specs.First.{first, some}
+use Rattle.number.specs.First.{first}
 use Rattle.number.proofs.Firsts.{first-same, first-passes, some-from, none-from}
 use Rattle.line.specs.Reading.{faulty}
 use Rattle.line.specs.Rows.{has, in-row, across, stray}

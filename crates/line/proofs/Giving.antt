@@ -1,26 +1,24 @@
 -- What holds of the bytes that a line is written to.
-use mathlib.Core.Bool.{true, false, not, _||_}
+use mathlib.Core.Bool.{false, not, _||_}
 use mathlib.Core.List.{List, [], _∷_, _++_}
 use mathlib.Core.Logic.{⊎-elim}
-use mathlib.Core.Path.{_≡_, refl, sym, ap, ap₂, subst, _∙_}
+use mathlib.Core.Path.{_≡_, sym, ap, ap₂, subst, _∙_}
 use Prim.Native.Nat.{ℕ, _+_, _-_, _*_, _/_, _%_, _<_, _≤_}
 use native.Mathlib.Omega.{arith}
 use borrow.Rule.Slice.PartMut.{putMid, postOf}
 use lib.Dec.{ltb}
 use lib.ListN.{length, getD, set, take, drop}
-use Rattle.std.specs.Results.{isOk}
 use Rattle.std.specs.declared.result.Result.the-variants.{Ok, Err}
 use Rattle.std.proofs.shelf.Lists.{append-nil, drop-all, length-take-le, getD-append-left, getD-append-right, getD-past}
 use Rattle.std.proofs.shelf.Tests.{cases-lt, le-ltb, lt-ltb}
-use Rattle.number.specs.First.{some}
 use Rattle.number.proofs.Firsts.{first-none}
 use Rattle.line.specs.declared.refusal.Lent.the-variants.{Line as TheLine}
 use Rattle.line.specs.declared.refusal.Refusal.the-variants.{Short}
 use Rattle.line.specs.declared.size.Size.{Size}
-use Rattle.line.specs.Bytes.{two-at, byte-length, meant, bytes-of}
+use Rattle.line.specs.Bytes.{byte-length, meant, bytes-of}
 use Rattle.line.specs.Line.{Line, users}
-use Rattle.line.specs.Reading.{part-faulty, whole, sizing, reading, over, writing, written, Again}
-use Rattle.line.specs.Rows.{in-row, across, row, stray, line-of, rows, Same-rows}
+use Rattle.line.specs.Reading.{part-faulty, sizing, over, writing, written, Again}
+use Rattle.line.specs.Rows.{in-row, across, row, line-of, rows, Same-rows}
 use Rattle.line.specs.Sound.{Sound}
 use Rattle.line.proofs.Answering.{reading-ok, fitting-ok}
 use Rattle.line.proofs.Rows.{uses-is, same-line, rows-length, rows-hold}

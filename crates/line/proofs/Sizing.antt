@@ -1,22 +1,20 @@
 -- The size that bytes tell.
-use mathlib.Core.Bool.{Bool, true, false, cond, not}
+use mathlib.Core.Bool.{Bool, true, false, cond}
 use mathlib.Core.List.{List}
-use mathlib.Core.Logic.{_⊎_}
 use mathlib.Core.Path.{_≡_, refl, sym, ap, ap₂, subst, _∙_}
-use Prim.Native.Nat.{ℕ, _<_, _≤_}
+use Prim.Native.Nat.{ℕ, _≤_}
 use native.Mathlib.Omega.{arith}
-use lib.Dec.{ltb, leb}
-use lib.ListN.{length, drop}
+use lib.Dec.{ltb}
+use lib.ListN.{length}
 use Rattle.std.specs.declared.result.Result.{Result}
 use Rattle.std.specs.declared.result.Result.the-variants.{Ok, Err}
-use Rattle.std.proofs.shelf.Tests.{ltb-false, le-ltb, lt-ltb, not-false, and-parts, ltb-true, leb-true}
+use Rattle.std.proofs.shelf.Tests.{ltb-false, le-ltb, not-false, and-parts, ltb-true, leb-true}
 use Rattle.std.proofs.shelf.Ways.{tells}
 use Rattle.line.specs.declared.refusal.Refusal.{Refusal}
 use Rattle.line.specs.declared.size.Size.{Size}
 use Rattle.line.specs.Bytes.{two-at, byte-length}
-use Rattle.line.specs.Limits.{most-farms, most-parts}
-use Rattle.line.specs.Reading.{within, whole, sizing}
-use Rattle.line.specs.Sound.{Within}
+use Rattle.line.specs.Limits.{most-farms, most-parts, Within, within}
+use Rattle.line.specs.Reading.{whole, sizing}
 
 pub within-yes : (most n : ℕ) → Within most n → within most n ≡ true
 within-yes most n h = let p = h .0 in let q = h .1 in grind (arith, tells)

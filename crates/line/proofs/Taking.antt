@@ -1,19 +1,18 @@
 -- What holds of words and bytes that hold the same line.
-use mathlib.Core.Bool.{Bool, true, false, not, _||_}
+use mathlib.Core.Bool.{true, false}
 use mathlib.Core.List.{List, [], _∷_, _++_}
-use mathlib.Core.Logic.{⊎-elim}
-use mathlib.Core.Path.{_≡_, refl, sym, ap, ap₂, subst, _∙_}
-use Prim.Native.Nat.{ℕ, zero, suc, _+_, _-_, _*_, _/_, _%_, _^_, _<_, _≤_}
+use mathlib.Core.Path.{_≡_, sym, ap, ap₂, subst, _∙_}
+use Prim.Native.Nat.{ℕ, _+_, _-_, _*_, _/_, _%_, _^_, _<_, _≤_}
 use native.Mathlib.Omega.{arith}
 use lib.Dec.{ltb}
-use lib.ListN.{length, getD, take, drop}
+use lib.ListN.{length, getD, drop}
 use Rattle.std.proofs.shelf.Lists.{take-append-drop, take-all, length-drop, getD-drop}
 use Rattle.std.proofs.shelf.Tests.{ltb-true, not-false, or-parts}
-use Rattle.number.specs.First.{first, some}
-use Rattle.number.proofs.Firsts.{first-same, some-count, none-from, each-fails}
+use Rattle.number.specs.First.{some}
+use Rattle.number.proofs.Firsts.{first-same, some-count, none-from}
 use Rattle.line.specs.declared.size.Size.{Size}
-use Rattle.line.specs.Bytes.{two-at, two, byte-length, meant, bytes-of}
-use Rattle.line.specs.Line.{Line, users}
+use Rattle.line.specs.Bytes.{two-at, two, meant, bytes-of}
+use Rattle.line.specs.Line.{users}
 use Rattle.line.specs.Reading.{faulty, part-faulty, over, Taken}
 use Rattle.line.specs.Rows.{in-row, across, row, stray, line-of, rows, Same-rows}
 use Rattle.line.specs.Sound.{Clear, Used}

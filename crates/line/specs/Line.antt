@@ -1,4 +1,4 @@
--- A line: farms, parts, and who uses which part. There is no bound on the numbers of farms and parts. These are definitions: nothing is assumed.
+-- A line: farms, parts, and who uses which part. There is no bound on the numbers of farms and parts.
 use mathlib.Core.Bool.{Bool}
 use Prim.Native.Nat.{ℕ}
 use Rattle.number.specs.Sum.{count}

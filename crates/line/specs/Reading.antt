@@ -1,9 +1,9 @@
 -- Which bytes are a line, what is refused of all others, and what lent memory holds after.
-use mathlib.Core.Bool.{Bool, cond, _||_, _&&_, not}
+use mathlib.Core.Bool.{Bool, cond, _||_, not}
 use mathlib.Core.List.{List, _++_}
 use mathlib.Core.Path.{_≡_}
-use Prim.Native.Nat.{ℕ, _*_, _≤_}
-use lib.Dec.{leb, ltb}
+use Prim.Native.Nat.{ℕ, _≤_}
+use lib.Dec.{ltb}
 use lib.ListN.{length, drop}
 use Rattle.std.specs.Results.{isOk}
 use Rattle.std.specs.declared.result.Result.{Result}
@@ -13,23 +13,20 @@ use Rattle.line.specs.declared.refusal.Lent.the-variants.{Line as TheLine}
 use Rattle.line.specs.declared.refusal.Refusal.{Refusal}
 use Rattle.line.specs.declared.refusal.Refusal.the-variants.{Length, Count, Users, Short}
 use Rattle.line.specs.declared.size.Size.{Size}
-use Rattle.line.specs.Limits.{most-farms, most-parts}
+use Rattle.line.specs.Limits.{most-farms, most-parts, within}
 use Rattle.line.specs.Line.{Line}
-use Rattle.line.specs.Rows.{in-row, across, row, stray, line-of, rows}
+use Rattle.line.specs.Rows.{in-row, across, row, stray, line-of, rows, word-length}
 use Rattle.line.specs.Bytes.{two-at, byte-length, meant, bytes-of}
 use Rattle.line.specs.Sound.{Sound}
 
--- there is at least one, and at most so many
-abbrev pub within : ℕ → ℕ → Bool
-within most n = ltb 0 n && leb n most
-
--- the size, where the number of bytes is the one that it asks for
+-- the size, if there are just the bytes that it asks for. Fewer are refused at their number, more at the first too many
 abbrev pub whole : List ℕ → Size → Result Size Refusal
 whole b s =
     cond (ltb (length b) (byte-length (s .farms) (s .parts))) (Err (Length (length b)))
     (cond (ltb (byte-length (s .farms) (s .parts)) (length b)) (Err (Length (byte-length (s .farms) (s .parts)))) (Ok s))
 
--- the size that the first four bytes tell
+-- The size that the first four bytes tell. Refused are, in this order: fewer than four bytes, at their number; a number of farms out of range, at 0;
+-- a number of parts out of range, at 2; another number of bytes than the size asks for
 unfoldable pub sizing : List ℕ → Result Size Refusal
 sizing b =
     cond (ltb (length b) 4) (Err (Length (length b)))
@@ -41,15 +38,15 @@ sizing b =
 abbrev pub faulty : ℕ → List ℕ → Bool
 faulty n r = stray 8 n r || not (some n (in-row 8 r))
 
--- whether part e's row is
+-- whether the row of part e is
 abbrev pub part-faulty : ℕ → List ℕ → ℕ → Bool
 part-faulty n xs e = faulty n (row (across 8 n) xs e)
 
--- then the parts are looked at from the front, and last whether the words that were lent suffice
+-- Then the first part whose row is faulty is refused, at the part, and last a lent slice that has too few words
 unfoldable pub fitting : List ℕ → ℕ → Size → Result Size Refusal
 fitting xs lent s =
     cond (some (s .parts) (part-faulty (s .farms) xs)) (Err (Users (first (s .parts) (part-faulty (s .farms) xs))))
-    (cond (ltb lent (s .parts * across 64 (s .farms))) (Err (Short TheLine)) (Ok s))
+    (cond (ltb lent (word-length (s .farms) (s .parts))) (Err (Short TheLine)) (Ok s))
 
 -- a size that was taken is looked at further; a refusal stays
 abbrev pub and-then : Result Size Refusal → (Size → Result Size Refusal) → Result Size Refusal
@@ -85,4 +82,4 @@ written l b = cond (isOk (writing l (length b))) (over (bytes-of l) b) b
 -- reading what was written gives the same line, wherever enough words are lent
 pub record Again (l : Line) (s : Size) : Type 0 where
   pub same : meant (bytes-of l) ≡ l
-  pub taken : (lent : ℕ) → l .parts * across 64 (l .farms) ≤ lent → reading (bytes-of l) lent ≡ Ok s
+  pub taken : (lent : ℕ) → word-length (l .farms) (l .parts) ≤ lent → reading (bytes-of l) lent ≡ Ok s

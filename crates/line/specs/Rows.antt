@@ -1,5 +1,5 @@
 -- A line as rows of bits. Each part has a row with a bit for each farm, kept in whole digits of w bits: bytes, of 8 bits, or words, of 64.
--- Farm i is bit i modulo w of digit i / w. These are definitions: nothing is assumed.
+-- Farm i is bit i modulo w of digit i / w.
 use mathlib.Core.Bool.{Bool, _&&_}
 use mathlib.Core.List.{List, map}
 use mathlib.Core.Path.{_≡_}
@@ -24,8 +24,12 @@ abbrev pub across : ℕ → ℕ → ℕ
 across w n = (n + (w - 1)) / w
 
 -- row e, where rows of a digits each stand one after the other
-abbrev pub row : ℕ → List ℕ → ℕ → List ℕ
+abbrev pub row : {X : Type 0} → ℕ → List X → ℕ → List X
 row a xs e = take a (drop (e * a) xs)
+
+-- how many words the rows of m parts take
+abbrev pub word-length : (n m : ℕ) → ℕ
+word-length n m = m * across 64 n
 
 -- whether a bit of a row is set that is no farm's: from n on, to the end of the row
 abbrev pub stray : (w n : ℕ) → List ℕ → Bool

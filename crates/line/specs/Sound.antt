@@ -2,19 +2,15 @@
 use mathlib.Core.Bool.{false}
 use mathlib.Core.Path.{_≡_}
 use mathlib.Core.List.{List}
-use Prim.Native.Nat.{ℕ, _*_, _≤_, _<_}
+use Prim.Native.Nat.{ℕ, _≤_, _<_}
 use lib.ListN.{length}
-use Rattle.line.specs.Limits.{most-farms, most-parts}
+use Rattle.line.specs.Limits.{most-farms, most-parts, Within}
 use Rattle.line.specs.Line.{users}
-use Rattle.line.specs.Rows.{across, row, stray, line-of}
-
--- there is at least one, and at most so many
-abbrev pub Within : ℕ → ℕ → Type 0
-Within most n = (0 < n) × (n ≤ most)
+use Rattle.line.specs.Rows.{across, row, stray, line-of, word-length}
 
 -- there is room for all rows
 abbrev pub Room : (n m : ℕ) → List ℕ → Type 0
-Room n m words = m * across 64 n ≤ length words
+Room n m words = word-length n m ≤ length words
 
 -- no bit stands that is no farm's
 abbrev pub Clear : (n m : ℕ) → List ℕ → Type 0

@@ -3,45 +3,13 @@ ghost use mathlib.Core.Path.{_≡_};
 ghost use Prim.Native.Nat.{_*_, _^_, _<_};
 ghost use lib.ListN.{length};
 ghost use Rattle.number.specs.Sum.{count};
-ghost use Rattle.line.specs.Bytes.{byte-length};
 ghost use Rattle.line.specs.Held.{held};
 ghost use Rattle.line.specs.Line.{users};
-ghost use Rattle.line.specs.Rows.{across, in-row};
+ghost use Rattle.line.specs.Rows.{in-row};
 use crate::line::Line;
 use crate::names::Farm;
 use crate::names::Part;
 use crate::row::row_of;
-use crate::size::Size;
-
-impl Size {
-    // How many words a part's row takes.
-    pub(crate) fn row_words(self) -> usize
-        ensures { λ r. ⌜ r ≡ across 64 (self .farms) ⌝ }
-    {
-        (self.farms as usize).div_ceil(64)
-    }
-
-    // How many bytes a part's row takes.
-    pub(crate) fn row_bytes(self) -> usize
-        ensures { λ r. ⌜ r ≡ across 8 (self .farms) ⌝ }
-    {
-        (self.farms as usize).div_ceil(8)
-    }
-
-    // How many words a line takes.
-    pub fn words(self) -> usize
-        ensures { λ r. ⌜ r ≡ self .parts * across 64 (self .farms) ⌝ }
-    {
-        self.parts as usize * self.row_words()
-    }
-
-    // How many bytes a line takes.
-    pub fn bytes(self) -> usize
-        ensures { λ r. ⌜ r ≡ byte-length (self .farms) (self .parts) ⌝ }
-    {
-        4 + self.parts as usize * self.row_bytes()
-    }
-}
 
 // How many bits of a row are set.
 fn count_row(row: &[u64]) -> u64

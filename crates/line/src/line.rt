@@ -1,7 +1,7 @@
 // A line over lent words.
 ghost use denote.Ref.{now};
-ghost use Rattle.line.specs.Limits.{most-farms, most-parts};
-ghost use Rattle.line.specs.Sound.{Within, Room, Clear, Used};
+ghost use Rattle.line.specs.Limits.{most-farms, most-parts, Within};
+ghost use Rattle.line.specs.Sound.{Room, Clear, Used};
 use crate::size::Size;
 
 // Who uses which part: one row of bits to a part, in whole words, farm i being bit i modulo 64 of word i / 64.

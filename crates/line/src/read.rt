@@ -6,7 +6,7 @@ ghost use Rattle.std.specs.Orderings.{When};
 ghost use Rattle.std.specs.Vec.{made};
 ghost use Rattle.number.specs.First.{first};
 ghost use Rattle.line.specs.Reading.{sizing, faulty, part-faulty, reading, filled, Taken};
-ghost use Rattle.line.specs.Rows.{has, in-row, across, Same-rows};
+ghost use Rattle.line.specs.Rows.{has, in-row, across, word-length, Same-rows};
 use crate::limits::MOST_FARMS;
 use crate::limits::MOST_PARTS;
 use crate::refusal::Lent;
@@ -58,6 +58,7 @@ fn is_faulty(bytes: &[u8], farms: u16) -> bool
     requires whole { ⌜ length (now bytes) ≡ across 8 farms ⌝ }
     ensures { λ r. ⌜ r ≡ faulty farms (now (bytes .entry)) ⌝ }
 {
+    // shifted so that the last farm's bit is the lowest: above 1, a bit stands after it
     let last = bytes[bytes.len() - 1];
     last >> ((farms - 1) % 8) > 1 || is_blank(bytes)
 }
@@ -114,9 +115,9 @@ fn pack_row(bytes: &[u8], words: &mut [u64])
 // Writes rows of bytes as rows of words.
 fn pack(bytes: &[u8], size: Size, words: &mut [u64])
     requires whole { ⌜ size .parts * across 8 (size .farms) ≤ length (now bytes) ⌝ }
-    requires room { ⌜ size .parts * across 64 (size .farms) ≤ length (now words) ⌝ }
+    requires room { ⌜ word-length (size .farms) (size .parts) ≤ length (now words) ⌝ }
     ensures same { λ _. ⌜ Same-rows 64 (across 64 (size .farms)) 8 (across 8 (size .farms)) (size .parts) (now (words .exit)) (now (bytes .entry)) ⌝ }
-    ensures rest { λ _. ⌜ drop (size .parts * across 64 (size .farms)) (now (words .exit)) ≡ drop (size .parts * across 64 (size .farms)) (now (words .entry)) ⌝ }
+    ensures rest { λ _. ⌜ drop (word-length (size .farms) (size .parts)) (now (words .exit)) ≡ drop (word-length (size .farms) (size .parts)) (now (words .entry)) ⌝ }
 {
     let from = size.row_bytes();
     let to = size.row_words();
@@ -126,7 +127,7 @@ fn pack(bytes: &[u8], size: Size, words: &mut [u64])
     }
 }
 
-// Fills lent words with the line that the bytes mean, and answers its size. A refusal leaves the words as they were; so do words past the line's.
+// Fills lent words with the line that the bytes mean, and answers its size. A refusal leaves them as they were, and words past the line's stay in any case.
 pub fn read_line(bytes: &[u8], words: &mut [u64]) -> Result<Size, Refusal>
     ensures answer { λ r. ⌜ r ≡ reading (now (bytes .entry)) (length (now (words .entry))) ⌝ }
     ensures after { λ r. ⌜ now (words .exit) ≡ filled (now (bytes .entry)) (now (words .entry)) ⌝ }

@@ -4,7 +4,7 @@ ghost use Prim.Native.Nat.{ℕ, _*_, _<_, _≤_};
 ghost use lib.ListN.{length, drop};
 ghost use Rattle.line.specs.Held.{held};
 ghost use Rattle.line.specs.Reading.{writing, written, Again};
-ghost use Rattle.line.specs.Rows.{in-row, across, Same-rows};
+ghost use Rattle.line.specs.Rows.{in-row, across, word-length, Same-rows};
 use crate::line::Line;
 use crate::refusal::Lent;
 use crate::refusal::Refusal;
@@ -23,7 +23,7 @@ fn unpack_row(words: &[u64], bytes: &mut [u8])
 
 // Writes rows of words as rows of bytes.
 fn unpack(words: &[u64], size: Size, bytes: &mut [u8])
-    requires whole { ⌜ size .parts * across 64 (size .farms) ≤ length (now words) ⌝ }
+    requires whole { ⌜ word-length (size .farms) (size .parts) ≤ length (now words) ⌝ }
     requires room { ⌜ size .parts * across 8 (size .farms) ≤ length (now bytes) ⌝ }
     ensures same { λ _. ⌜ Same-rows 8 (across 8 (size .farms)) 64 (across 64 (size .farms)) (size .parts) (now (bytes .exit)) (now (words .entry)) ⌝ }
     ensures rest { λ _. ⌜ drop (size .parts * across 8 (size .farms)) (now (bytes .exit)) ≡ drop (size .parts * across 8 (size .farms)) (now (bytes .entry)) ⌝ }

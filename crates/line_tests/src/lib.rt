@@ -3,7 +3,7 @@
 #[cfg(test)]
 mod tests {
     use line::limits::MOST_FARMS;
-    use line::limits::MOST_WORDS;
+    use line::limits::MOST_PARTS;
     use line::line::Line;
     use line::names::Farm;
     use line::names::Part;
@@ -12,6 +12,7 @@ mod tests {
     use line::refusal::Refusal;
     use line::refusal::RefusalDebug;
     use line::refusal::RefusalPartialEq;
+    use line::size::Size;
     use line::size::SizeDebug;
     use line::size::SizePartialEq;
     use std::alloc::AllocError;
@@ -89,7 +90,11 @@ mod tests {
 
     #[test]
     fn sizes(rt: LibcRuntime) -> Result<(), Fail> {
-        let mut words = vec![in rt.alloc(); 7u64; MOST_WORDS]?;
+        let most = Size {
+            farms: MOST_FARMS,
+            parts: MOST_PARTS,
+        };
+        let mut words = vec![in rt.alloc(); 7u64; most.words()]?;
         for farms in [1u16, 8, 9, 63, 64, 65, MOST_FARMS] {
             round(rt.alloc(), farms, words.as_mut_slice())?;
         }

@@ -2,7 +2,7 @@
 use mathlib.Core.Logic.{inl, inr}
 use mathlib.Core.Path.{_≡_, sym, _∙_, ap, subst}
 use Prim.Native.Nat.{ℕ, zero, suc, _*_, _/_, _%_, _<_, _∣_}
-use native.Mathlib.Nat.{zero-lt-suc, zero-mul, mul-comm, mul-assoc, mod-lt, mul-div-cancel', div-mul-cancel}
+use native.Mathlib.Nat.{zero-lt-suc, zero-mul, mul-pos, mul-comm, mul-assoc, mod-lt, mul-div-cancel', div-mul-cancel}
 use native.Mathlib.Nat.{dvd-refl, dvd-zero, dvd-mul-left, dvd-mul-right, dvd-trans, dvd-mod-iff, dvd-antisymm, le-of-dvd, pos-of-dvd-of-pos}
 use native.Mathlib.Nat.{dvd-of-mul-dvd-mul-left, mul-dvd-mul-left, mul-dvd-mul-right}
 use native.Mathlib.Omega.{arith}
@@ -97,7 +97,7 @@ no-greater a b d g pos c l r =
 
 -- so a number above 0 is at least each of its divisors
 pub no-smaller : No-smaller
-no-smaller a b m h c pos l r = le-of-dvd pos (h .least c l r)
+no-smaller a b m h = ((λ c pos l r. le-of-dvd pos (h .least c l r)), λ p q. pos-of-dvd-of-pos (h .least (a * b) (dvd-mul-right a b) (dvd-mul-left b a)) (mul-pos p q))
 
 -- two numbers that divide each other are equal
 pub only-one : Only-one

@@ -1,11 +1,11 @@
 -- Laws of `sumF`, each shown once by induction on the number of terms.
-use mathlib.Core.Path.{_≡_, sym, _∙_, ap, subst}
-use Prim.Native.Nat.{ℕ, zero, suc, _+_, _*_, _≤_, _<_}
+use mathlib.Core.Path.{sym, _∙_, ap, subst}
+use Prim.Native.Nat.{ℕ, zero, suc, _<_}
 use native.Mathlib.Nat.{mul-zero}
 use native.Mathlib.Omega.{arith}
 use Rattle.number.specs.Fraction.{Fraction, over, _≈_, _≼_, _⊕_, times, sumF}
 use Rattle.number.specs.Sum.{sum}
-use Rattle.number.proofs.Fractions.{same-refl, same-sym, _then_, add-same, add-comm, add-assoc, nothing-add, times-add, split-times, times-same, no-times, times-over, over-add, over-none, le-same, le-add}
+use Rattle.number.proofs.Fractions.{same-refl, same-sym, _then_, add-same, add-comm, add-assoc, nothing-add, times-add, split-times, no-times, times-over, over-add, over-none, le-same, le-add}
 
 pub sumF-same : (n : ℕ) (f g : ℕ → Fraction) → ((i : ℕ) → i < n → f i ≈ g i) → sumF n f ≈ sumF n g
 unfolding sumF

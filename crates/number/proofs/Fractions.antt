@@ -1,13 +1,13 @@
 -- Fractions are a commutative monoid in which a positive factor cancels.
 use mathlib.Core.Path.{_≡_, refl, sym, _∙_, ap, ap₂, subst, subst₂}
-use Prim.Native.Nat.{ℕ, zero, suc, pred, _+_, _*_, _≤_, _<_}
+use Prim.Native.Nat.{ℕ, suc, pred, _+_, _*_, _≤_, _<_}
 use native.Mathlib.Nat.{mul-le-mul-left, mul-le-mul-right}
 use native.Mathlib.Omega.{arith}
 use borrow.Author.Differences.{ints}
-use lib.IntN.{ℤ, pos, _+ℤ_, _*ℤ_, *ℤ-comm, zero-*ℤ, *ℤ-zero, +ℤ-idl}
+use lib.IntN.{ℤ, pos, _+ℤ_, _*ℤ_, *ℤ-comm, zero-*ℤ, +ℤ-idl}
 use lib.Signed.{_≤ℤ_, ≤ℤ-refl}
 use Rattle.number.specs.Fraction.{Fraction, over, _≈_, _≼_, _⊕_, times}
-use Rattle.number.proofs.Integers.{mul-assoc, add-mul, cancel, cancel-le, mul-le, add-le, one-mul, ring}
+use Rattle.number.proofs.Integers.{mul-assoc, cancel, cancel-le, mul-le, add-le, one-mul, ring}
 
 infixr 30 _then_
 -- identities of integers

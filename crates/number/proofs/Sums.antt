@@ -86,10 +86,11 @@ sum-has (suc n) e f l =
       | inr q ↦ omega (arith, sum-has n e f (omega (arith, q)))
     ]
 
+-- one that passes counts 1, and one that fails 0
+pub one-most : (b : Bool) → one b ≤ 1
+one-most true = omega arith
+one-most false = omega arith
+
 -- no more than n pass among n
 pub count-most : (n : ℕ) (p : ℕ → Bool) → count n p ≤ n
-count-most n p = omega (arith, sum-most n 1 (λ i. one (p i)) (λ i _. small (p i)))
-  where
-    small : (b : Bool) → one b ≤ 1
-    small true = omega arith
-    small false = omega arith
+count-most n p = omega (arith, sum-most n 1 (λ i. one (p i)) (λ i _. one-most (p i)))

@@ -1,4 +1,4 @@
--- Common divisors and common multiples of two numbers. These are definitions and statements: nothing is assumed.
+-- Common divisors and common multiples of two numbers.
 use mathlib.Core.Path.{_≡_}
 use Prim.Native.Nat.{ℕ, _+_, _≤_, _<_, _∣_}
 
@@ -18,9 +18,9 @@ pub record Least (a b m : ℕ) : Type 0 where
 abbrev pub No-greater : Type 0
 No-greater = (a b d : ℕ) → Greatest a b d → 0 < a + b → (c : ℕ) → c ∣ a → c ∣ b → c ≤ d
 
--- no common multiple is smaller, except 0
+-- no common multiple above 0 is smaller, and it is above 0 itself where both numbers are
 abbrev pub No-smaller : Type 0
-No-smaller = (a b m : ℕ) → Least a b m → (c : ℕ) → 0 < c → a ∣ c → b ∣ c → m ≤ c
+No-smaller = (a b m : ℕ) → Least a b m → ((c : ℕ) → 0 < c → a ∣ c → b ∣ c → m ≤ c) × (0 < a → 0 < b → 0 < m)
 
 -- two numbers have at most one greatest common divisor, and at most one least common multiple
 abbrev pub Only-one : Type 0

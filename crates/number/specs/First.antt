@@ -1,4 +1,4 @@
--- The first number that passes a test. These are definitions: nothing is assumed.
+-- The first number that passes a test.
 use mathlib.Core.Bool.{Bool, cond}
 use Prim.Native.Nat.{ℕ, zero, suc}
 use lib.Dec.{ltb}

@@ -22,12 +22,12 @@ Sum-swaps = (n m : ℕ) (f : ℕ → ℕ → ℕ) → sum n (λ i. sum m (f i)) 
 abbrev pub Sum-orders : Type 0
 Sum-orders = (n : ℕ) (f g : ℕ → ℕ) → ((i : ℕ) → i < n → f i ≤ g i) → sum n f ≤ sum n g
 
--- whatever is below the first number fails the test, and the first number passes it unless none below n does
+-- the first number is at most n; whatever is below it fails the test, and it passes the test itself if it is below n
 abbrev pub First-is-first : Type 0
 First-is-first =
     (n : ℕ) (p : ℕ → Bool) →
     (first n p ≤ n) × ((k : ℕ) → k < first n p → p k ≡ false) × (first n p < n → p (first n p) ≡ true)
 
--- some number passes the test where the count of those that pass is above 0
+-- some number passes the test exactly where the count of those that pass is above 0
 abbrev pub Some-counts : Type 0
 Some-counts = (n : ℕ) (p : ℕ → Bool) → some n p ≡ ltb 0 (count n p)

@@ -1,4 +1,4 @@
--- Lowest terms. These are definitions and statements: nothing is assumed.
+-- Lowest terms.
 use mathlib.Core.Path.{_≡_}
 use Prim.Native.Nat.{ℕ, _≤_, _<_, _∣_}
 use Rattle.number.specs.Fraction.{over, _≈_}

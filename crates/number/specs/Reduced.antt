@@ -1,4 +1,4 @@
--- What a fraction of the code stands for. These are definitions and statements: nothing is assumed.
+-- What a fraction of the code stands for.
 use mathlib.Core.Bool.{cond}
 use mathlib.Core.List.{List, _++_}
 use mathlib.Core.Path.{_≡_}

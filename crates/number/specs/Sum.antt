@@ -1,4 +1,4 @@
--- Sums and counts over the numbers below n. These are definitions: nothing is assumed.
+-- Sums and counts over the numbers below n.
 use mathlib.Core.Bool.{Bool, cond}
 use Prim.Native.Nat.{ℕ, zero, suc, _+_}
 

@@ -8,7 +8,7 @@ pub fn sums_stand() -> u8
     0
 }
 
-// The first number is the first that passes, and there is one where the count is above 0.
+// The first number is the first that passes, and there is one exactly where the count is above 0.
 pub fn first_stands() -> u8
     ensures { λ _. ⌜ First-is-first ⌝ ∗ ⌜ Some-counts ⌝ }
 {

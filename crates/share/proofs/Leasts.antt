@@ -1,6 +1,6 @@
 -- The least scale, found part by part.
 use mathlib.Core.Logic.{⊎-elim}
-use mathlib.Core.Path.{_≡_, refl, ap, _∙_}
+use mathlib.Core.Path.{_≡_}
 use Prim.Native.Nat.{ℕ, zero, suc, _+_, _*_, _/_, _<_, _≤_, _∣_}
 use native.Mathlib.Nat.{mul-pos, one-dvd, dvd-mul-right, dvd-mul-left, dvd-trans, le-of-dvd, pos-of-dvd-of-pos, div-mul-cancel}
 use native.Mathlib.Omega.{arith}

@@ -1,8 +1,8 @@
--- What the calls that compute shares answer, and what lent memory holds after. These are definitions: nothing is assumed.
+-- What the calls that compute shares answer, and what lent memory holds after.
 use mathlib.Core.Bool.{Bool, cond}
 use mathlib.Core.List.{List}
 use mathlib.Core.Path.{_≡_}
-use Prim.Native.Nat.{ℕ, _^_, _<_, _≤_}
+use Prim.Native.Nat.{ℕ, _^_, _<_}
 use lib.Dec.{leb, ltb}
 use lib.ListN.{length, getD, take, drop}
 use Rattle.std.specs.declared.option.Option.{Option}
@@ -21,7 +21,6 @@ use Rattle.line.specs.Line.{Line}
 use Rattle.share.specs.declared.form.Form.{Form}
 use Rattle.share.specs.declared.form.Form.the-variants.{Scaled, ByPart}
 use Rattle.share.specs.declared.form.PartShare.{PartShare}
-use Rattle.share.specs.Cost.{Costs}
 use Rattle.share.specs.Fair.{Fair-once}
 use Rattle.share.specs.Least.{Scaling}
 use Rattle.share.specs.Listed.{listed, total}

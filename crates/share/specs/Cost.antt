@@ -1,4 +1,4 @@
--- What the parts of a line cost in a year. These are definitions: nothing is assumed.
+-- What the parts of a line cost in a year.
 use mathlib.Core.Bool.{cond}
 use Prim.Native.Nat.{ℕ, _+_}
 use lib.Dec.{eqb}

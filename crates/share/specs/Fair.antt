@@ -1,4 +1,4 @@
--- What a fair rule is. These are definitions: nothing is assumed.
+-- What a fair rule is.
 use mathlib.Core.Bool.{true}
 use mathlib.Core.Path.{_≡_}
 use Prim.Native.Nat.{ℕ, _<_}

@@ -1,4 +1,4 @@
--- A group of farms, and what it would cost alone. These are definitions: nothing is assumed.
+-- A group of farms, and what it would cost alone.
 use mathlib.Core.Bool.{Bool, cond, _&&_}
 use Prim.Native.Nat.{ℕ}
 use Rattle.number.specs.First.{some}

@@ -1,4 +1,4 @@
--- The scale over which shares are written: the least that will do. These are definitions: nothing is assumed.
+-- The scale over which shares are written: the least that will do.
 use Prim.Native.Nat.{ℕ, _<_, _≤_, _∣_}
 use Rattle.std.specs.Options.{Cases}
 use Rattle.std.specs.declared.option.Option.{Option}

@@ -1,4 +1,4 @@
--- A farm's share part by part. These are definitions: nothing is assumed.
+-- A farm's share part by part.
 use mathlib.Core.Bool.{cond, _&&_}
 use mathlib.Core.List.{List, [], _∷_, _++_}
 use Prim.Native.Nat.{ℕ, zero, suc}

@@ -1,4 +1,4 @@
--- A rule that shares costs, and the rule of the line. These are definitions: nothing is assumed.
+-- A rule that shares costs, and the rule of the line.
 use Prim.Native.Nat.{ℕ, _*_}
 use Rattle.number.specs.Fraction.{Fraction, over, sumF}
 use Rattle.line.specs.Line.{Line}

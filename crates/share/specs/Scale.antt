@@ -1,4 +1,4 @@
--- Shares as whole numbers over one scale. These are definitions: nothing is assumed.
+-- Shares as whole numbers over one scale.
 use mathlib.Core.Path.{_≡_}
 use Prim.Native.Nat.{ℕ, _*_, _<_}
 use Rattle.number.specs.Sum.{sum}

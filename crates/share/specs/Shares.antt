@@ -1,4 +1,4 @@
--- What a program that computes shares promises. These are definitions: nothing is assumed.
+-- What a program that computes shares promises.
 use Prim.Native.Nat.{ℕ, _*_, _≤_, _<_}
 use Rattle.number.specs.Fraction.{over, _≈_}
 use Rattle.line.specs.Line.{Line}

@@ -1,4 +1,4 @@
--- How much a farm counts for a part. Who uses a part is another thing, and the line says it. These are definitions: nothing is assumed.
+-- How much a farm counts for a part. Who uses a part is another thing, and the line says it.
 use mathlib.Core.Bool.{false}
 use mathlib.Core.Path.{_≡_}
 use Prim.Native.Nat.{ℕ, _<_}

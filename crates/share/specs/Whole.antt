@@ -1,4 +1,4 @@
--- What a fair rule is, said in whole numbers: each share stands as so many parts of 1 / scale. These are definitions: nothing is assumed.
+-- What a fair rule is, said in whole numbers: each share stands as so many parts of 1 / scale.
 use mathlib.Core.Bool.{true, cond}
 use mathlib.Core.Path.{_≡_}
 use Prim.Native.Nat.{ℕ, _+_, _*_, _<_}

@@ -1,13 +1,13 @@
 // The shares of all farms, and of one.
 ghost use mathlib.Core.Path.{_≡_};
-ghost use Prim.Native.Nat.{ℕ, _^_, _/_, _<_, _≤_};
+ghost use Prim.Native.Nat.{ℕ, _/_, _<_, _≤_};
 ghost use lib.ListN.{length, drop};
 ghost use Rattle.std.specs.Results.{errPart};
 ghost use Rattle.line.specs.Held.{held};
 ghost use Rattle.line.specs.Line.{users};
 ghost use Rattle.share.specs.Answer.{at, shares-refused, farm-refused, Answered, Given};
 ghost use Rattle.share.specs.Asked.{Asked};
-ghost use Rattle.share.specs.Scale.{due, scaled};
+ghost use Rattle.share.specs.Scale.{scaled};
 ghost use Rattle.share.specs.Weight.{once};
 use crate::costs::refused_costs;
 use crate::form::Form;

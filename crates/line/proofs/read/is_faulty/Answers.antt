@@ -1,6 +1,5 @@
 use mathlib.Core.Bool.{not, _||_}
-use mathlib.Core.Path.{_≡_, sym, ap, _∙_}
-use lib.Dec.{ltb}
+use mathlib.Core.Path.{sym, ap, _∙_}
 use Rattle.std.proofs.shelf.Tests.{lt-ltb, le-ltb}
 use Rattle.number.specs.First.{some}
 use Rattle.line.specs.Rows.{in-row}

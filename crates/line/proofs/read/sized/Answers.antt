@@ -1,16 +1,14 @@
 use mathlib.Core.Bool.{false}
-use mathlib.Core.List.{List}
 use mathlib.Core.Logic.{⊎-elim}
-use mathlib.Core.Path.{_≡_, sym, ap, _∙_}
-use Prim.Native.Nat.{ℕ, _≤_}
+use mathlib.Core.Path.{_≡_, sym, _∙_}
 use native.Mathlib.Omega.{arith}
 use lib.Dec.{ltb}
 use lib.ListN.{length}
 use Rattle.std.proofs.shelf.Tests.{le-ltb, lt-ltb, ltb-true, ltb-false}
 use Rattle.line.specs.declared.size.Size.{Size}
 use Rattle.line.specs.Bytes.{two-at, byte-length}
-use Rattle.line.specs.Limits.{most-farms, most-parts}
-use Rattle.line.specs.Reading.{within, whole, sizing}
+use Rattle.line.specs.Limits.{most-farms, most-parts, within}
+use Rattle.line.specs.Reading.{sizing}
 use Rattle.line.proofs.Sizing.{within-yes, within-no, sizing-whole}
 use Rattle.line.proofs.read.sized.Needs as need
 

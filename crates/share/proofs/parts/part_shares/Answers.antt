@@ -1,5 +1,4 @@
 use mathlib.Core.Path.{refl, sym, _∙_}
-use native.Mathlib.Omega.{arith}
 use lib.ListN.{length}
 use Rattle.number.proofs.Fractions.{same-sym, _then_}
 use Rattle.line.specs.Held.{held}

@@ -6,7 +6,7 @@ use lib.ListN.{length, getD, set, take, drop}
 use Rattle.std.proofs.shelf.Lists.{length-set, length-drop, drop-set-lt, take-rest}
 use Rattle.std.specs.declared.result.Result.{Result}
 use Rattle.std.specs.declared.result.Result.the-variants.{Ok}
-use Rattle.line.specs.declared.line.Line.{Line as Lent}
+use Rattle.line.specs.declared.line.Line.{Line as Over}
 use Rattle.line.specs.declared.refusal.Refusal.{Refusal}
 use Rattle.line.specs.Held.{held}
 use Rattle.line.specs.Limits.{most-farms, most-parts}
@@ -17,7 +17,7 @@ use Rattle.line.proofs.Taking.{over-rows}
 use Rattle.line.proofs.line.Line.write.Needs as need
 
 -- the invariant of a line over lent words
-sound : (l : Lent) → Sound (l .size .farms) (l .size .parts) (l .words .now)
+sound : (l : Over) → Sound (l .size .farms) (l .size .parts) (l .words .now)
 sound l = record { farms = l .farms; parts = l .parts; room = l .room; clear = l .clear; used = l .used }
 
 pub returns-then-bytes-end : need.returns-then-bytes-end
