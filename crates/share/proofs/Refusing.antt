@@ -9,7 +9,7 @@ use Rattle.std.specs.declared.option.Option.{Option}
 use Rattle.std.specs.declared.option.Option.the-variants.{Some, None}
 use Rattle.std.proofs.shelf.Tests.{ltb-false, leb-false, lt-ltb, le-ltb, lt-leb, le-leb}
 use Rattle.number.proofs.Firsts.{each-fails}
-use Rattle.line.specs.declared.refusal.Lent.the-variants.{Accounts, Sheet}
+use Rattle.line.specs.declared.refusal.Lent.the-variants.{Accounts, Costs as TheCosts, Sheet}
 use Rattle.line.specs.declared.refusal.Refusal.{Refusal}
 use Rattle.line.specs.declared.refusal.Refusal.the-variants.{Unknown, Short}
 use Rattle.line.specs.Limits.{costs-end}
@@ -38,18 +38,26 @@ module _ (l : Line) (costs : List ℕ) where
   unfolding shares-refused
   shares-on lent h = simp (le-ltb _ _ h)
 
-  pub farm-unknown : (i : ℕ) → l .farms ≤ i → farm-refused l costs i ≡ Some (Unknown i)
+  pub farm-short : (i : ℕ) → length costs < l .parts → farm-refused l costs i ≡ Some (Short TheCosts)
   unfolding farm-refused
-  farm-unknown i h = simp (le-leb _ _ h)
+  farm-short i h = simp (lt-ltb _ _ h)
 
-  pub farm-on : (i : ℕ) → i < l .farms → farm-refused l costs i ≡ costs-refused (l .parts) costs
+  pub farm-unknown : (i : ℕ) → l .parts ≤ length costs → l .farms ≤ i → farm-refused l costs i ≡ Some (Unknown i)
   unfolding farm-refused
-  farm-on i h = simp (lt-leb _ _ h)
+  farm-unknown i g h = simp (le-ltb _ _ g, le-leb _ _ h)
 
-  pub parts-short : (i lent : ℕ) → lent < l .parts → parts-refused l costs i lent ≡ Some (Short Sheet)
-  unfolding parts-refused
-  parts-short i lent h = simp (lt-ltb _ _ h)
+  pub farm-on : (i : ℕ) → l .parts ≤ length costs → i < l .farms → farm-refused l costs i ≡ costs-refused (l .parts) costs
+  unfolding farm-refused
+  farm-on i g h = simp (le-ltb _ _ g, lt-leb _ _ h)
 
-  pub parts-on : (i lent : ℕ) → l .parts ≤ lent → parts-refused l costs i lent ≡ farm-refused l costs i
+  pub parts-few : (i lent : ℕ) → length costs < l .parts → parts-refused l costs i lent ≡ Some (Short TheCosts)
   unfolding parts-refused
-  parts-on i lent h = simp (le-ltb _ _ h)
+  parts-few i lent h = simp (lt-ltb _ _ h)
+
+  pub parts-short : (i lent : ℕ) → l .parts ≤ length costs → lent < l .parts → parts-refused l costs i lent ≡ Some (Short Sheet)
+  unfolding parts-refused
+  parts-short i lent g h = simp (le-ltb _ _ g, lt-ltb _ _ h)
+
+  pub parts-on : (i lent : ℕ) → l .parts ≤ length costs → l .parts ≤ lent → parts-refused l costs i lent ≡ farm-refused l costs i
+  unfolding parts-refused
+  parts-on i lent g h = simp (le-ltb _ _ g, le-ltb _ _ h)

@@ -45,13 +45,17 @@ costs-refused m costs =
 unfoldable pub shares-refused : Line → List ℕ → ℕ → Option Refusal
 shares-refused l costs lent = cond (ltb lent (l .farms)) (Some (Short Accounts)) (costs-refused (l .parts) costs)
 
--- a farm's share: there is no such farm, or the costs are refused
+-- a farm's share: there are too few costs, or no such farm, or a cost is too large
 unfoldable pub farm-refused : Line → List ℕ → ℕ → Option Refusal
-farm-refused l costs i = cond (leb (l .farms) i) (Some (Unknown i)) (costs-refused (l .parts) costs)
+farm-refused l costs i =
+    cond (ltb (length costs) (l .parts)) (Some (Short TheCosts))
+    (cond (leb (l .farms) i) (Some (Unknown i)) (costs-refused (l .parts) costs))
 
--- a farm's share part by part: too few rows are lent for it, or it is refused as a farm's share is
+-- a farm's share part by part: there are too few costs, or too few rows are lent for it, or it is refused as a farm's share is
 unfoldable pub parts-refused : Line → List ℕ → ℕ → ℕ → Option Refusal
-parts-refused l costs i lent = cond (ltb lent (l .parts)) (Some (Short Sheet)) (farm-refused l costs i)
+parts-refused l costs i lent =
+    cond (ltb (length costs) (l .parts)) (Some (Short TheCosts))
+    (cond (ltb lent (l .parts)) (Some (Short Sheet)) (farm-refused l costs i))
 
 -- shares over one scale: the numbers are what every fair rule gives, and all are below 2^63
 pub record Over (l : Line) (costs before after : List ℕ) (s : ℕ) : Type 0 where

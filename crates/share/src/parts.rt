@@ -57,6 +57,9 @@ pub fn part_shares(
     ensures refused { λ r. ⌜ errPart r ≡ parts-refused (held (now (line .entry))) (now (costs .entry)) (farm .0) (length (now (rows .entry))) ⌝ }
     ensures answer { λ r. ⌜ Told (held (now (line .entry))) (now (costs .entry)) (farm .0) (now (rows .entry)) (now (rows .exit)) r ⌝ }
 {
+    if costs.len() < line.size.parts as usize {
+        return Err(Refusal::Short(Lent::Costs));
+    }
     if rows.len() < line.size.parts as usize {
         return Err(Refusal::Short(Lent::Sheet));
     }

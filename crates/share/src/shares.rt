@@ -86,6 +86,9 @@ pub fn share_of(line: &Line, costs: &[u64], farm: Farm) -> Result<Option<Fractio
     ensures refused { λ r. ⌜ errPart r ≡ farm-refused (held (now (line .entry))) (now (costs .entry)) (farm .0) ⌝ }
     ensures answer { λ r. ⌜ Given (held (now (line .entry))) (now (costs .entry)) (farm .0) r ⌝ }
 {
+    if costs.len() < line.size.parts as usize {
+        return Err(Refusal::Short(Lent::Costs));
+    }
     if farm.0 >= line.size.farms {
         return Err(Refusal::Unknown(farm.0 as usize));
     }

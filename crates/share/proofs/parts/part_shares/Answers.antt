@@ -6,18 +6,21 @@ use Rattle.share.specs.Answer.{at}
 use Rattle.share.proofs.Lists.{total-listed}
 use Rattle.share.proofs.Once.{once-rule}
 use Rattle.share.proofs.Promised.{fair-share}
-use Rattle.share.proofs.Refusing.{costs-fine, farm-unknown, farm-on, parts-short, parts-on}
+use Rattle.share.proofs.Refusing.{farm-unknown, farm-on, parts-few, parts-short, parts-on}
 use Rattle.share.proofs.parts.part_shares.Needs as need
 
+pub returns-then-costs-line : need.returns-then-costs-line
+returns-then-costs-line c = record { refused = sym (parts-few (held (c .args .line .now)) (c .args .costs .now) (c .args .farm .0) (length (c .args .rows .now)) (c .if-costs-line .taken)); answer = refl }
+
 pub returns-then-rows-line : need.returns-then-rows-line
-returns-then-rows-line c = record { refused = sym (parts-short (held (c .args .line .now)) (c .args .costs .now) (c .args .farm .0) (length (c .args .rows .now)) (c .if-rows-line .taken)); answer = refl }
+returns-then-rows-line c = record { refused = sym (parts-short (held (c .args .line .now)) (c .args .costs .now) (c .args .farm .0) (length (c .args .rows .now)) (c .if-costs-line .left) (c .if-rows-line .taken)); answer = refl }
 
 pub returns-then-farm-line : need.returns-then-farm-line
 returns-then-farm-line c =
     record {
       refused =
-          sym (parts-on (held (c .args .line .now)) (c .args .costs .now) (c .args .farm .0) (length (c .args .rows .now)) (c .if-rows-line .left)
-          ∙ farm-unknown (held (c .args .line .now)) (c .args .costs .now) (c .args .farm .0) (c .if-farm-line .taken));
+          sym (parts-on (held (c .args .line .now)) (c .args .costs .now) (c .args .farm .0) (length (c .args .rows .now)) (c .if-costs-line .left) (c .if-rows-line .left)
+          ∙ farm-unknown (held (c .args .line .now)) (c .args .costs .now) (c .args .farm .0) (c .if-costs-line .left) (c .if-farm-line .taken));
       answer = refl;
     }
 
@@ -26,13 +29,13 @@ returns-in-Some c =
     record {
       refused =
           c .in-Some .ensures tt
-          ∙ sym (parts-on (held (c .args .line .now)) (c .args .costs .now) (c .args .farm .0) (length (c .args .rows .now)) (c .if-rows-line .left)
-          ∙ farm-on (held (c .args .line .now)) (c .args .costs .now) (c .args .farm .0) (c .if-farm-line .left));
+          ∙ sym (parts-on (held (c .args .line .now)) (c .args .costs .now) (c .args .farm .0) (length (c .args .rows .now)) (c .if-costs-line .left) (c .if-rows-line .left)
+          ∙ farm-on (held (c .args .line .now)) (c .args .costs .now) (c .args .farm .0) (c .if-costs-line .left) (c .if-farm-line .left));
       answer = refl;
     }
 
 pub list-parts-requires : need.list-parts-requires
-list-parts-requires c κs = record { room = c .if-rows-line .left; enough = costs-fine (c .args .line .now .size .parts) (c .args .costs .now) (sym (c .in-rest .ensures tt)) .0 }
+list-parts-requires c κs = record { room = c .if-rows-line .left; enough = c .if-costs-line .left }
 
 pub returns : need.returns
 returns c =
@@ -41,7 +44,7 @@ returns c =
     record {
       refused =
           c .in-rest .ensures tt
-          ∙ sym (parts-on (held line) (c .args .costs .now) (c .args .farm .0) (length (c .args .rows .now)) (c .if-rows-line .left) ∙ farm-on (held line) (c .args .costs .now) (c .args .farm .0) (c .if-farm-line .left));
+          ∙ sym (parts-on (held line) (c .args .costs .now) (c .args .farm .0) (length (c .args .rows .now)) (c .if-costs-line .left) (c .if-rows-line .left) ∙ farm-on (held line) (c .args .costs .now) (c .args .farm .0) (c .if-costs-line .left) (c .if-farm-line .left));
       answer = record {
         rows = c .list-parts .ensures .front;
         count = c .list-parts .ensures .count;

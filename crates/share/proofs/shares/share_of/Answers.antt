@@ -20,7 +20,7 @@ use Rattle.share.specs.Weight.{All-used, once}
 use Rattle.share.proofs.Dues.{owed, owed-small}
 use Rattle.share.proofs.Leasts.{least-scale, least-positive}
 use Rattle.share.proofs.Promised.{fair-share}
-use Rattle.share.proofs.Refusing.{costs-fine, farm-unknown, farm-on}
+use Rattle.share.proofs.Refusing.{costs-fine, farm-short, farm-unknown, farm-on}
 use Rattle.share.proofs.Scales.{scaled-right}
 use Rattle.share.proofs.shares.share_of.Needs as need
 
@@ -35,18 +35,21 @@ given l costs i s v a used few h is (Some f) value = (
   λ r fair. value then subst (λ x. over x s ≈ the-rule l (once l) (at costs) i) (sym is) (scaled-right l (once l) (at costs) s (λ e. s / users l e) (least-scale l (at costs) s used (a .least)) i) then fair-share l used (at costs) i h r fair,
 )
 
+pub returns-then-costs-line : need.returns-then-costs-line
+returns-then-costs-line c = record { refused = sym (farm-short (held (c .args .line .now)) (c .args .costs .now) (c .args .farm .0) (c .if-costs-line .taken)); answer = tt }
+
 pub returns-then-farm-line : need.returns-then-farm-line
-returns-then-farm-line c = record { refused = sym (farm-unknown (held (c .args .line .now)) (c .args .costs .now) (c .args .farm .0) (c .if-farm-line .taken)); answer = tt }
+returns-then-farm-line c = record { refused = sym (farm-unknown (held (c .args .line .now)) (c .args .costs .now) (c .args .farm .0) (c .if-costs-line .left) (c .if-farm-line .taken)); answer = tt }
 
 pub returns-in-Some : need.returns-in-Some
-returns-in-Some c = record { refused = c .in-Some .ensures tt ∙ sym (farm-on (held (c .args .line .now)) (c .args .costs .now) (c .args .farm .0) (c .if-farm-line .left)); answer = tt }
+returns-in-Some c = record { refused = c .in-Some .ensures tt ∙ sym (farm-on (held (c .args .line .now)) (c .args .costs .now) (c .args .farm .0) (c .if-costs-line .left) (c .if-farm-line .left)); answer = tt }
 
 pub scale-of-requires : need.scale-of-requires
 scale-of-requires c κs = costs-fine (c .args .line .now .size .parts) (c .args .costs .now) (sym (c .in-rest .ensures tt)) .0
 
 pub returns-in-rest-scale-of : need.returns-in-rest-scale-of
 returns-in-rest-scale-of c =
-    record { refused = c .in-rest .ensures tt ∙ sym (farm-on (held (c .args .line .now)) (c .args .costs .now) (c .args .farm .0) (c .if-farm-line .left)); answer = c .in-rest-scale-of .ensures tt }
+    record { refused = c .in-rest .ensures tt ∙ sym (farm-on (held (c .args .line .now)) (c .args .costs .now) (c .args .farm .0) (c .if-costs-line .left) (c .if-farm-line .left)); answer = c .in-rest-scale-of .ensures tt }
 
 pub due-of-requires : need.due-of-requires
 due-of-requires c κs =
@@ -64,6 +67,6 @@ returns c =
     let scale = c .in-Some-scale-of .ensures tt in
     let asked : Asked l costs s = record { enough = fine .0; small = fine .1; least = scale .0; below = scale .1 } in
     record {
-      refused = c .in-rest .ensures tt ∙ sym (farm-on l costs (c .args .farm .0) (c .if-farm-line .left));
+      refused = c .in-rest .ensures tt ∙ sym (farm-on l costs (c .args .farm .0) (c .if-costs-line .left) (c .if-farm-line .left));
       answer = given l costs (c .args .farm .0) s _ asked (line .used) (line .parts .1) (c .if-farm-line .left) (c .due-of .ensures) (c .new .result) (c .new .ensures .fits (least-positive l (at costs) s (line .used) (scale .0)));
     }
