@@ -1,7 +1,7 @@
 -- Fractions are a commutative monoid in which a positive factor cancels.
 use mathlib.Core.Path.{_≡_, refl, sym, _∙_, ap, ap₂, subst, subst₂}
 use Prim.Native.Nat.{ℕ, suc, pred, _+_, _*_, _≤_, _<_}
-use native.Mathlib.Nat.{mul-le-mul-left, mul-le-mul-right}
+use native.Mathlib.Nat.{mul-le-mul-right}
 use native.Mathlib.Omega.{arith}
 use borrow.Author.Differences.{ints}
 use lib.IntN.{ℤ, pos, _+ℤ_, _*ℤ_, *ℤ-comm, zero-*ℤ, +ℤ-idl}
@@ -83,11 +83,6 @@ pub times-one : (a : Fraction) → times 1 a ≈ a
 unfolding times
 times-one a = record { crossed = ap (λ z. z *ℤ pos (a .bottom)) (one-mul (a .top)) }
 
-pub times-next : (n : ℕ) (a : Fraction) → a ⊕ times n a ≈ times (suc n) a
-times-next n a =
-    let e : 1 + n ≡ suc n = omega arith in
-    add-same (same-sym (times-one a)) same-refl then same-sym (subst (λ k. times k a ≈ times 1 a ⊕ times n a) e (split-times 1 n a))
-
 pub times-same : (n : ℕ) {a b : Fraction} → a ≈ b → times n a ≈ times n b
 unfolding times
 times-same n {a} {b} e = record { crossed = mul-assoc (pos n) (a .top) (pos (b .bottom)) ∙ ap (λ z. pos n *ℤ z) (e .crossed) ∙ sym (mul-assoc (pos n) (b .top) (pos (a .bottom))) }
@@ -150,10 +145,6 @@ le-trans {a} {b} {c} e f = record {
 pub over-le : (a b d : ℕ) → a ≤ b → over a d ≼ over b d
 unfolding over
 over-le a b d h = record { crossed = omega (arith, ints, mul-le-mul-right (suc (pred d)) h) }
-
-pub over-more : (a d d′ : ℕ) → 0 < d → d ≤ d′ → over a d′ ≼ over a d
-unfolding over
-over-more a d d′ h k = record { crossed = omega (arith, ints, mul-le-mul-left a (let g : suc (pred d) ≤ suc (pred d′) = omega arith in g)) }
 
 pub le-add : {a a′ b b′ : Fraction} → a ≼ a′ → b ≼ b′ → a ⊕ b ≼ a′ ⊕ b′
 unfolding _⊕_

@@ -1,8 +1,9 @@
 -- The least scale, found part by part.
-use mathlib.Core.Logic.{⊎-elim}
-use mathlib.Core.Path.{_≡_}
+use mathlib.Core.Logic.{inl, inr, ⊎-elim}
+use mathlib.Core.Path.{_≡_, subst}
 use Prim.Native.Nat.{ℕ, zero, suc, _+_, _*_, _/_, _<_, _≤_, _∣_}
-use native.Mathlib.Nat.{mul-pos, one-dvd, dvd-mul-right, dvd-mul-left, dvd-trans, le-of-dvd, pos-of-dvd-of-pos, div-mul-cancel}
+use native.Mathlib.Nat.{mul-pos, one-dvd, dvd-mul-right, dvd-mul-left, dvd-trans, dvd-antisymm, le-of-dvd, pos-of-dvd-of-pos, div-mul-cancel}
+use native.Mathlib.Numerals.{add-one}
 use native.Mathlib.Omega.{arith}
 use borrow.Author.Count.{below-more}
 use Rattle.std.proofs.shelf.Tests.{cases-lt}
@@ -12,6 +13,7 @@ use Rattle.line.specs.Line.{Line, users}
 use Rattle.share.specs.Cost.{Costs}
 use Rattle.share.specs.Least.{Divided, Least-scale}
 use Rattle.share.specs.Scale.{Scale}
+use Rattle.share.specs.Theorems.{One-scale}
 use Rattle.share.specs.Weight.{whole, once, All-used}
 
 module _ (l : Line) (c : Costs) where
@@ -62,3 +64,17 @@ module _ (l : Line) (c : Costs) where
   pub least-scale : (s : ℕ) → All-used l → Least-scale l c (l .parts) s → Scale l (once l) c s (λ e. s / users l e)
   unfolding whole users
   least-scale s used h = record { positive = least-positive s used h; divides = λ e g costs. div-mul-cancel (users l e) (h .divided e g costs) }
+
+exists : (l : Line) (c : Costs) (k : ℕ) → (s : ℕ) × Least-scale l c k s
+exists l c zero = (1, least-none l c)
+exists l c (suc k) =
+    let h = exists l c k in
+    let P : ℕ → Type 0 = λ n. (s : ℕ) × Least-scale l c n s in
+    subst P (add-one k)
+    (elim (cases-lt 0 (c k)) [
+      | inl costs ↦ let m = always-one (h .0) (users l k) .1 in (m .0, least-more l c k (h .0) (m .0) costs (m .1) (h .1))
+      | inr none ↦ let free : c k ≡ 0 = omega arith in (h .0, least-free l c k (h .0) free (h .1))
+    ])
+
+pub one-scale : One-scale
+one-scale l c k = (exists l c k, λ s t a b. dvd-antisymm (a .least t (b .divided)) (b .least s (a .divided)))

@@ -13,7 +13,7 @@ use Rattle.number.proofs.Fractions.{same-refl, same-sym, _then_, add-same, add-
 use Rattle.line.specs.Line.{Line, users}
 use Rattle.share.specs.declared.form.PartShare.{PartShare}
 use Rattle.share.specs.Cost.{Costs}
-use Rattle.share.specs.Listed.{part-of, listed, total}
+use Rattle.share.specs.Listed.{part-of, listed, comes-to}
 
 -- one part more, where it is listed and where not
 pub listed-more : (l : Line) (c : Costs) (i e : ℕ) → (l .uses i e && ltb 0 (c e)) ≡ true → listed l c i (e + 1) ≡ listed l c i e ++ part-of l c e ∷ []
@@ -25,19 +25,19 @@ unfolding listed
 listed-same l c i e h = ap (listed l c i) (add-one e) ∙ ap (λ b. listed l c i e ++ cond b (part-of l c e ∷ []) []) h ∙ append-nil (listed l c i e)
 
 -- what is listed comes to the sum of its parts
-total-push : (ps : List PartShare) (p : PartShare) → total (ps ++ p ∷ []) ≈ over (p .cost .0) (p .users) ⊕ total ps
-unfolding total
+total-push : (ps : List PartShare) (p : PartShare) → comes-to (ps ++ p ∷ []) ≈ over (p .cost .0) (p .users) ⊕ comes-to ps
+unfolding comes-to
 total-push [] p = same-refl
 total-push (q ∷ ps) p =
-    add-same same-refl (total-push ps p) then same-sym (add-assoc (over (q .cost .0) (q .users)) (over (p .cost .0) (p .users)) (total ps))
-    then add-same (add-comm (over (q .cost .0) (q .users)) (over (p .cost .0) (p .users))) same-refl then add-assoc (over (p .cost .0) (p .users)) (over (q .cost .0) (q .users)) (total ps)
+    add-same same-refl (total-push ps p) then same-sym (add-assoc (over (q .cost .0) (q .users)) (over (p .cost .0) (p .users)) (comes-to ps))
+    then add-same (add-comm (over (q .cost .0) (q .users)) (over (p .cost .0) (p .users))) same-refl then add-assoc (over (p .cost .0) (p .users)) (over (q .cost .0) (q .users)) (comes-to ps)
 
-unlisted : (l : Line) (c : Costs) (i e : ℕ) (x : Fraction) → total (listed l c i e) ≈ x → total (listed l c i e ++ []) ≈ over 0 1 ⊕ x
+unlisted : (l : Line) (c : Costs) (i e : ℕ) (x : Fraction) → comes-to (listed l c i e) ≈ x → comes-to (listed l c i e ++ []) ≈ over 0 1 ⊕ x
 unlisted l c i e x so = rw append-nil (so then same-sym (nothing-add x))
 
 -- one part more, listed or not
-total-more : (l : Line) (c : Costs) (i e : ℕ) (x : Fraction) (u b : Bool) → ltb 0 (c e) ≡ b → total (listed l c i e) ≈ x →
-    total (listed l c i e ++ cond (u && b) (part-of l c e ∷ []) []) ≈ cond u (over (c e) (users l e)) (over 0 1) ⊕ x
+total-more : (l : Line) (c : Costs) (i e : ℕ) (x : Fraction) (u b : Bool) → ltb 0 (c e) ≡ b → comes-to (listed l c i e) ≈ x →
+    comes-to (listed l c i e ++ cond (u && b) (part-of l c e ∷ []) []) ≈ cond u (over (c e) (users l e)) (over 0 1) ⊕ x
 total-more l c i e x true true h so = total-push (listed l c i e) (part-of l c e) then add-same same-refl so
 total-more l c i e x true false h so =
     let free : c e ≡ 0 = omega (arith, ltb-false 0 (c e) h) in
@@ -45,7 +45,7 @@ total-more l c i e x true false h so =
 total-more l c i e x false b h so = unlisted l c i e x so
 
 -- what a farm's listed parts come to is its share
-pub total-listed : (l : Line) (c : Costs) (i k : ℕ) → total (listed l c i k) ≈ sumF k (λ e. cond (l .uses i e) (over (c e) (users l e)) (over 0 1))
-unfolding listed total sumF
+pub total-listed : (l : Line) (c : Costs) (i k : ℕ) → comes-to (listed l c i k) ≈ sumF k (λ e. cond (l .uses i e) (over (c e) (users l e)) (over 0 1))
+unfolding listed comes-to sumF
 total-listed l c i zero = same-refl
 total-listed l c i (suc e) = total-more l c i e _ (l .uses i e) (ltb 0 (c e)) refl (total-listed l c i e)

@@ -9,9 +9,11 @@ use Rattle.number.specs.Sum.{one}
 use Rattle.number.proofs.Fractions.{same-sym, _then_, times-one, over-same, over-none}
 use Rattle.number.proofs.FractionSums.{sumF-same}
 use Rattle.line.specs.Line.{users}
-use Rattle.share.specs.Weight.{whole}
+use Rattle.share.specs.Weight.{whole, once}
 use Rattle.share.specs.Rule.{part-share, the-rule}
-use Rattle.share.specs.Theorems.{Once-agree, Once-rule}
+use Rattle.share.specs.Theorems.{Some-fair, Once-agree, Once-rule}
+use Rattle.share.proofs.Fairness.{rule-fair}
+use Rattle.share.proofs.Weights.{once-fits}
 
 -- a user's weight
 times-user : (b : Bool) (a : Fraction) → b ≡ true → times (one b) a ≈ a
@@ -32,8 +34,11 @@ once-agree l r = (
 
 pub once-rule : Once-rule
 unfolding the-rule part-share whole users
-once-rule l c i = sumF-same (l .parts) _ _ (λ e _. each (l .uses i e) (c e) (users l e))
+once-rule l _ c i = sumF-same (l .parts) _ _ (λ e _. each (l .uses i e) (c e) (users l e))
   where
     each : (b : Bool) (v n : ℕ) → over (one b * v) n ≈ cond b (over v n) (over 0 1)
     each true v n = over-same _ v n (one-mul v)
     each false v n = over-same _ 0 n (zero-mul v) then over-none n
+
+pub some-fair : Some-fair
+some-fair l used = once-agree l _ .0 (rule-fair l (once l) (once-fits l used))

@@ -37,6 +37,7 @@ fair-share l used c i k r f = same-sym (every-fair-rule l (once l) (once-fits l 
 pub shares-right : Shares-right
 shares-right l c scale per v used s is = record {
   positive = s .positive;
+  rule = share;
   fair = λ r f i k. share i k then fair-share l used c i k r f;
   no-group = group-most l (once l) (once-fits l used) c scale v (s .positive) share;
 }

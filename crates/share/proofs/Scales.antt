@@ -38,10 +38,6 @@ pub due-next : (weight : Weights) (per : ℕ → ℕ) (c : Costs) (i k : ℕ) �
 unfolding due
 due-next weight per c i k = sum-next k (λ e. per e * (weight i e * c e))
 
--- a part that costs nothing
-pub due-free : (weight : Weights) (per : ℕ → ℕ) (c : Costs) (i k : ℕ) → c k ≡ 0 → due weight per c i (k + 1) ≡ due weight per c i k
-due-free weight per c i k free = omega (arith, due-next weight per c i k, free-part (per k) (weight i k) (c k) free)
-
 -- where each user counts once: a part that farm i uses, and one that it does not use
 pub due-used : (l : Line) (per : ℕ → ℕ) (c : Costs) (i k : ℕ) → l .uses i k ≡ true → due (once l) per c i (k + 1) ≡ due (once l) per c i k + per k * c k
 due-used l per c i k u = due-next (once l) per c i k ∙ ap (λ b. due (once l) per c i k + per k * (one b * c k)) u ∙ omega arith

@@ -17,7 +17,7 @@ use Rattle.share.specs.Weight.{whole, once, All-used}
 use Rattle.share.specs.Fair.{Fair, Fair-once}
 use Rattle.share.specs.Scale.{due, scaled}
 use Rattle.share.specs.Whole.{Scaled-rule, Fair-whole, whole-rule}
-use Rattle.share.specs.Theorems.{Whole-fair, Whole-no-other, Whole-nobody-leaves}
+use Rattle.share.specs.Theorems.{Whole-fair, Whole-no-other, Whole-every, Whole-nobody-leaves}
 use Rattle.share.proofs.Building.{only-other}
 use Rattle.share.proofs.Weights.{once-fits}
 use Rattle.share.proofs.Fairness.{no-other}
@@ -95,6 +95,9 @@ whole-no-other l (suc s) r q used fr fq c i k =
   where
     by-weight : (p : Scaled-rule) → Fair-whole l (suc s) p → Fair l (once l) (λ d j. over (p d j) (suc s))
     by-weight p f = once-agree l _ .1 (fair-over l (suc s) p (omega arith) f)
+
+pub whole-every : Whole-every
+whole-every l scale per used divide r f c i k = whole-no-other l scale r (whole-rule l per) used f (whole-fair l scale per divide) c i k
 
 pub whole-nobody-leaves : Whole-nobody-leaves
 unfolding whole users

@@ -16,5 +16,5 @@ pub record Least-scale (l : Line) (c : Costs) (k s : ℕ) : Type 0 where
   pub least : (t : ℕ) → Divided l c k t → s ∣ t
 
 -- the least scale of all parts, where it is below the limit, and only there
-abbrev pub Scaling : Line → Costs → Option ℕ → Type 0
-Scaling l c r = Cases r ((s : ℕ) → Least-scale l c (l .parts) s → scale-end ≤ s) (λ s. Least-scale l c (l .parts) s × (s < scale-end))
+abbrev pub Scale-answer : Line → Costs → Option ℕ → Type 0
+Scale-answer l c r = Cases r ((s : ℕ) → Least-scale l c (l .parts) s → scale-end ≤ s) (λ s. Least-scale l c (l .parts) s × (s < scale-end))

@@ -18,6 +18,6 @@ listed l c i zero = []
 listed l c i (suc e) = listed l c i e ++ cond (l .uses i e && ltb 0 (c e)) (part-of l c e ∷ []) []
 
 -- what they come to together
-unfoldable pub total : List PartShare → Fraction
-total [] = over 0 1
-total (p ∷ ps) = over (p .cost .0) (p .users) ⊕ total ps
+unfoldable pub comes-to : List PartShare → Fraction
+comes-to [] = over 0 1
+comes-to (p ∷ ps) = over (p .cost .0) (p .users) ⊕ comes-to ps

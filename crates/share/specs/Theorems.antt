@@ -9,6 +9,7 @@ use Rattle.share.specs.Weight.{Weights, Fits, once, All-used}
 use Rattle.share.specs.Rule.{Rule, the-rule}
 use Rattle.share.specs.Fair.{Fair, Fair-once}
 use Rattle.share.specs.Group.{Group, alone, group-pays, group-sum}
+use Rattle.share.specs.Least.{Least-scale}
 use Rattle.share.specs.Scale.{Scale, scaled}
 use Rattle.share.specs.Whole.{Scaled-rule, Fair-whole, All-divide, whole-rule}
 use Rattle.share.specs.Shares.{Shares}
@@ -39,6 +40,10 @@ Nobody-leaves =
 abbrev pub Once-fits : Type 0
 Once-fits = (l : Line) → All-used l → Fits l (once l)
 
+-- so some rule is fair: all users of a part can pay the same
+abbrev pub Some-fair : Type 0
+Some-fair = (l : Line) → All-used l → Fair-once l (the-rule l (once l))
+
 -- where each user counts once, to share by weight is to have all users of a part pay the same
 abbrev pub Once-agree : Type 0
 Once-agree = (l : Line) (r : Rule) → (Fair l (once l) r → Fair-once l r) × (Fair-once l r → Fair l (once l) r)
@@ -46,7 +51,7 @@ Once-agree = (l : Line) (r : Rule) → (Fair l (once l) r → Fair-once l r) × 
 -- and there a farm pays, for each part that it uses, the cost over the number of its users
 abbrev pub Once-rule : Type 0
 Once-rule =
-    (l : Line) (c : Costs) (i : ℕ) →
+    (l : Line) → All-used l → (c : Costs) (i : ℕ) →
     the-rule l (once l) c i ≈ sumF (l .parts) (λ e. cond (l .uses i e) (over (c e) (users l e)) (over 0 1))
 
 -- the whole numbers, over their scale, are the shares of the rule
@@ -55,15 +60,25 @@ Scaled-right =
     (l : Line) (weight : Weights) (c : Costs) (scale : ℕ) (per : ℕ → ℕ) → Scale l weight c scale per →
     (i : ℕ) → over (scaled l weight per c i) scale ≈ the-rule l weight c i
 
+-- there is one least scale, and only one
+abbrev pub One-scale : Type 0
+One-scale = (l : Line) (c : Costs) (k : ℕ) → ((s : ℕ) × Least-scale l c k s) × ((s t : ℕ) → Least-scale l c k s → Least-scale l c k t → s ≡ t)
+
 -- in whole numbers: the rule is fair
 abbrev pub Whole-fair : Type 0
 Whole-fair = (l : Line) (scale : ℕ) (per : ℕ → ℕ) → All-divide l scale per → Fair-whole l scale (whole-rule l per)
 
--- in whole numbers: any two fair rules give every farm the same share, for all costs and whatever the scale
+-- in whole numbers: any two fair rules give every farm the same share, for all costs, over any one scale
 abbrev pub Whole-no-other : Type 0
 Whole-no-other =
     (l : Line) (scale : ℕ) (r q : Scaled-rule) → All-used l → Fair-whole l scale r → Fair-whole l scale q →
     (c : Costs) (i : ℕ) → i < l .farms → r c i ≡ q c i
+
+-- in whole numbers: so every fair rule gives the shares of the rule
+abbrev pub Whole-every : Type 0
+Whole-every =
+    (l : Line) (scale : ℕ) (per : ℕ → ℕ) → All-used l → All-divide l scale per → (r : Scaled-rule) → Fair-whole l scale r →
+    (c : Costs) (i : ℕ) → i < l .farms → r c i ≡ whole-rule l per c i
 
 -- in whole numbers: no group of farms pays more than the parts that one of it uses cost
 abbrev pub Whole-nobody-leaves : Type 0

@@ -1,6 +1,10 @@
 // How shares are given.
 use line::names::Part;
+use line::names::PartDebug;
+use line::names::PartPartialEq;
 use number::cents::Cents;
+use number::cents::CentsDebug;
+use number::cents::CentsPartialEq;
 
 // Whether all shares stand over one scale.
 #[derive(Clone, Copy, PartialEq, Eq, Debug)]
@@ -12,7 +16,7 @@ pub enum Form {
 }
 
 // What a farm pays of a part: its cost over the number of its users.
-#[derive(Clone, Copy)]
+#[derive(Clone, Copy, PartialEq, Eq, Debug)]
 pub struct PartShare {
     pub part: Part,
     pub cost: Cents,

@@ -2,6 +2,6 @@
 pub mod costs;
 pub mod form;
 pub mod parts;
-pub mod scale;
+mod scale;
 pub mod shares;
 pub mod theorems;

@@ -6,9 +6,9 @@ ghost use lib.Dec.{ltb};
 ghost use lib.ListN.{length, take, drop};
 ghost use Rattle.std.specs.Results.{errPart};
 ghost use Rattle.line.specs.Held.{held};
-ghost use Rattle.share.specs.Answer.{at, parts-refused, Told};
+ghost use Rattle.share.specs.Answer.{at, parts-refused, Parts-answer};
 ghost use Rattle.share.specs.Listed.{listed};
-use crate::costs::refused_costs;
+use crate::costs::large_cost;
 use crate::form::PartShare;
 use line::line::Line;
 use line::names::Farm;
@@ -55,7 +55,7 @@ pub fn part_shares(
     rows: &mut [PartShare],
 ) -> Result<usize, Refusal>
     ensures refused { λ r. ⌜ errPart r ≡ parts-refused (held (now (line .entry))) (now (costs .entry)) (farm .0) (length (now (rows .entry))) ⌝ }
-    ensures answer { λ r. ⌜ Told (held (now (line .entry))) (now (costs .entry)) (farm .0) (now (rows .entry)) (now (rows .exit)) r ⌝ }
+    ensures answer { λ r. ⌜ Parts-answer (held (now (line .entry))) (now (costs .entry)) (farm .0) (now (rows .entry)) (now (rows .exit)) r ⌝ }
 {
     if costs.len() < line.size.parts as usize {
         return Err(Refusal::Short(Lent::Costs));
@@ -66,7 +66,7 @@ pub fn part_shares(
     if farm.0 >= line.size.farms {
         return Err(Refusal::Unknown(farm.0 as usize));
     }
-    if let Some(refusal) = refused_costs(costs, line.size.parts) {
+    if let Some(refusal) = large_cost(costs, line.size.parts) {
         return Err(refusal);
     }
     Ok(list_parts(line, costs, farm, rows))

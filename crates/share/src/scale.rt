@@ -3,7 +3,7 @@ ghost use Prim.Native.Nat.{_≤_};
 ghost use lib.ListN.{length};
 ghost use Rattle.line.specs.Held.{held};
 ghost use Rattle.share.specs.Answer.{at};
-ghost use Rattle.share.specs.Least.{Scaling};
+ghost use Rattle.share.specs.Least.{Scale-answer};
 use line::line::Line;
 use line::names::Part;
 use number::divisors::lcm_below;
@@ -14,7 +14,7 @@ const SCALE_END: u64 = 4096;
 // The least common multiple of the numbers of users of the parts that cost something, where it is below the limit.
 pub(crate) fn scale_of(line: &Line, costs: &[u64]) -> Option<u64>
     requires { ⌜ now line .size .parts ≤ length (now costs) ⌝ }
-    ensures { λ r. ⌜ Scaling (held (now (line .entry))) (at (now (costs .entry))) r ⌝ }
+    ensures { λ r. ⌜ Scale-answer (held (now (line .entry))) (at (now (costs .entry))) r ⌝ }
 {
     let mut scale = 1;
     for e in 0..line.size.parts {

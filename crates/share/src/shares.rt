@@ -5,10 +5,11 @@ ghost use lib.ListN.{length, drop};
 ghost use Rattle.std.specs.Results.{errPart};
 ghost use Rattle.line.specs.Held.{held};
 ghost use Rattle.line.specs.Line.{users};
-ghost use Rattle.share.specs.Answer.{at, shares-refused, farm-refused, Answered, Given};
+ghost use Rattle.share.specs.Answer.{at, shares-refused, farm-refused, Shares-answer, Share-answer};
 ghost use Rattle.share.specs.Asked.{Asked};
 ghost use Rattle.share.specs.Scale.{scaled};
 ghost use Rattle.share.specs.Weight.{once};
+use crate::costs::large_cost;
 use crate::costs::refused_costs;
 use crate::form::Form;
 use crate::scale::scale_of;
@@ -51,7 +52,7 @@ fn add_up(line: &Line, costs: &[u64], scale: u64, row: &mut [u64])
 // The shares of all farms, over the least scale if it is below the limit; the row has a number for each farm.
 pub fn shares(line: &Line, costs: &[u64], row: &mut [u64]) -> Result<Form, Refusal>
     ensures refused { λ r. ⌜ errPart r ≡ shares-refused (held (now (line .entry))) (now (costs .entry)) (length (now (row .entry))) ⌝ }
-    ensures answer { λ r. ⌜ Answered (held (now (line .entry))) (now (costs .entry)) (now (row .entry)) (now (row .exit)) r ⌝ }
+    ensures answer { λ r. ⌜ Shares-answer (held (now (line .entry))) (now (costs .entry)) (now (row .entry)) (now (row .exit)) r ⌝ }
 {
     if row.len() < line.size.farms as usize {
         return Err(Refusal::Short(Lent::Accounts));
@@ -81,10 +82,10 @@ fn due_of(line: &Line, costs: &[u64], scale: u64, farm: Farm) -> u64
     due
 }
 
-// The share of one farm as a fraction in lowest terms, if the least scale is below the limit.
+// The share of one farm as a fraction in lowest terms, if the least scale of all farms' shares is below the limit.
 pub fn share_of(line: &Line, costs: &[u64], farm: Farm) -> Result<Option<Fraction>, Refusal>
     ensures refused { λ r. ⌜ errPart r ≡ farm-refused (held (now (line .entry))) (now (costs .entry)) (farm .0) ⌝ }
-    ensures answer { λ r. ⌜ Given (held (now (line .entry))) (now (costs .entry)) (farm .0) r ⌝ }
+    ensures answer { λ r. ⌜ Share-answer (held (now (line .entry))) (now (costs .entry)) (farm .0) r ⌝ }
 {
     if costs.len() < line.size.parts as usize {
         return Err(Refusal::Short(Lent::Costs));
@@ -92,7 +93,7 @@ pub fn share_of(line: &Line, costs: &[u64], farm: Farm) -> Result<Option<Fractio
     if farm.0 >= line.size.farms {
         return Err(Refusal::Unknown(farm.0 as usize));
     }
-    if let Some(refusal) = refused_costs(costs, line.size.parts) {
+    if let Some(refusal) = large_cost(costs, line.size.parts) {
         return Err(refusal);
     }
     let Some(scale) = scale_of(line, costs) else {

@@ -1,6 +1,6 @@
 // What is known of sharing the costs of a line: each function stands for the theorem that its contract names.
 ghost use Rattle.share.specs.Theorems.{Rule-fair, No-other, Every-fair-rule, Nobody-leaves};
-ghost use Rattle.share.specs.Theorems.{Once-fits, Once-agree, Once-rule, Scaled-right};
+ghost use Rattle.share.specs.Theorems.{Some-fair, One-scale, Whole-every, Once-fits, Once-agree, Once-rule, Scaled-right};
 ghost use Rattle.share.specs.Theorems.{Whole-fair, Whole-no-other, Whole-nobody-leaves, Shares-right};
 
 // The rule is fair.
@@ -27,6 +27,13 @@ pub fn every_fair_rule() -> u8
 // No group pays more than the parts that one of it uses cost.
 pub fn nobody_leaves() -> u8
     ensures { λ _. ⌜ Nobody-leaves ⌝ }
+{
+    0
+}
+
+// Where each part has a user, some rule is fair.
+pub fn some_rule_is_fair() -> u8
+    ensures { λ _. ⌜ Some-fair ⌝ }
 {
     0
 }
@@ -83,6 +90,20 @@ pub fn whole_nobody_leaves() -> u8
 // What a program computes over a scale is what every fair rule gives, and no group pays too much.
 pub fn shares_are_right() -> u8
     ensures { λ _. ⌜ Shares-right ⌝ }
+{
+    0
+}
+
+// There is one least scale, and only one.
+pub fn one_scale() -> u8
+    ensures { λ _. ⌜ One-scale ⌝ }
+{
+    0
+}
+
+// In whole numbers: every fair rule gives the shares of the rule.
+pub fn whole_every() -> u8
+    ensures { λ _. ⌜ Whole-every ⌝ }
 {
     0
 }

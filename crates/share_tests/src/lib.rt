@@ -13,10 +13,14 @@ mod tests {
     use line::refusal::RefusalDebug;
     use line::refusal::RefusalPartialEq;
     use number::cents::Cents;
+    use number::fraction::FractionDebug;
+    use number::fraction::FractionPartialEq;
     use share::form::Form;
     use share::form::FormDebug;
     use share::form::FormPartialEq;
     use share::form::PartShare;
+    use share::form::PartShareDebug;
+    use share::form::PartSharePartialEq;
     use share::parts::part_shares;
     use share::shares::share_of;
     use share::shares::shares;
@@ -117,13 +121,41 @@ mod tests {
         }; 4];
         let k = part_shares(&line, &costs, Farm(8), &mut rows)?;
         check_eq(k, 3)?;
-        check_eq(rows[0].part.0, 1)?;
-        check_eq(rows[0].cost.0, 90)?;
-        check_eq(rows[0].users, 9)?;
-        check_eq(rows[2].part.0, 3)?;
-        check_eq(rows[3].users, 9)
+        check_eq(
+            rows[0],
+            PartShare {
+                part: Part(1),
+                cost: Cents(90),
+                users: 9,
+            },
+        )?;
+        check_eq(
+            rows[1],
+            PartShare {
+                part: Part(2),
+                cost: Cents(110),
+                users: 11,
+            },
+        )?;
+        check_eq(
+            rows[2],
+            PartShare {
+                part: Part(3),
+                cost: Cents(130),
+                users: 13,
+            },
+        )?;
+        check_eq(
+            rows[3],
+            PartShare {
+                part: Part(9),
+                cost: Cents(9),
+                users: 9,
+            },
+        )
     }
 
+    // What is refused first where several things are wrong; nothing lent is changed.
     #[test]
     fn refusals() -> Result<(), Fail> {
         let mut words = [0u64; 2];
@@ -134,21 +166,57 @@ mod tests {
         };
         let mut row = [7u64; 3];
         check_eq(
+            shares(&line, &[1], &mut row[0..2]),
+            Err(Refusal::Short(Lent::Accounts)),
+        )?;
+        check_eq(
+            shares(&line, &[1_000_000_000_000], &mut row),
+            Err(Refusal::Short(Lent::Costs)),
+        )?;
+        check_eq(
             shares(&line, &[1, 1_000_000_000_000], &mut row),
             Err(Refusal::Amount(1)),
         )?;
+        check_eq(row, [7u64; 3])
+    }
+
+    // The same of a farm's share.
+    #[test]
+    fn farm_refusals() -> Result<(), Fail> {
+        let mut words = [0u64; 2];
+        let size = read_line(&[3, 0, 2, 0, 7, 6], &mut words)?;
+        let line = Line {
+            size,
+            words: &mut words,
+        };
+        let blank = PartShare {
+            part: Part(9),
+            cost: Cents(9),
+            users: 9,
+        };
+        let mut rows = [blank; 2];
+        let large = [1_000_000_000_000, 1];
         check_eq(
-            shares(&line, &[1], &mut row),
+            part_shares(&line, &[1], Farm(3), &mut rows[0..1]),
             Err(Refusal::Short(Lent::Costs)),
         )?;
-        check_eq(row, [7u64; 3])?;
         check_eq(
-            shares(&line, &[1, 1], &mut row[0..2]),
-            Err(Refusal::Short(Lent::Accounts)),
+            part_shares(&line, &large, Farm(3), &mut rows[0..1]),
+            Err(Refusal::Short(Lent::Sheet)),
         )?;
-        match share_of(&line, &[1, 1], Farm(3)) {
-            Err(refusal) => check_eq(refusal, Refusal::Unknown(3)),
-            Ok(_) => Err(Fail::new("a farm that doesn't exist has a share")),
-        }
+        check_eq(
+            part_shares(&line, &large, Farm(3), &mut rows),
+            Err(Refusal::Unknown(3)),
+        )?;
+        check_eq(
+            part_shares(&line, &large, Farm(2), &mut rows),
+            Err(Refusal::Amount(0)),
+        )?;
+        check_eq(rows, [blank; 2])?;
+        check_eq(
+            share_of(&line, &[1], Farm(3)),
+            Err(Refusal::Short(Lent::Costs)),
+        )?;
+        check_eq(share_of(&line, &large, Farm(3)), Err(Refusal::Unknown(3)))
     }
 }

@@ -1,38 +1,12 @@
-use mathlib.Core.Bool.{true}
-use mathlib.Core.Path.{_≡_}
-use native.Mathlib.Omega.{arith}
-use borrow.Author.Count.{below-more}
 use lib.ListN.{length}
-use Rattle.std.proofs.shelf.Tests.{le-leb, lt-leb, lt-ltb, le-ltb}
-use Rattle.number.proofs.Firsts.{first-is, none-from}
-use Rattle.line.specs.Limits.{costs-end}
-use Rattle.share.specs.Answer.{too-large, costs-refused}
+use Rattle.std.proofs.shelf.Tests.{lt-ltb, le-ltb}
+use Rattle.share.specs.Answer.{costs-refused}
 use Rattle.share.proofs.costs.refused_costs.Needs as need
 
 pub returns-then-costs-parts : need.returns-then-costs-parts
 unfolding costs-refused
 returns-then-costs-parts c = simp (lt-ltb (length (c .args .costs .now)) (c .args .parts) (c .if-costs-parts .taken))
 
-pub returns-then-costs-e-ge-COSTS-END : need.returns-then-costs-e-ge-COSTS-END
-unfolding costs-refused costs-end
-returns-then-costs-e-ge-COSTS-END c =
-    let costs = c .args .costs .now in
-    let m = c .args .parts in
-    let here : too-large costs (c .loop-e .e) ≡ true = le-leb _ _ (c .if-costs-e-ge-COSTS-END .taken) in
-    let enough = le-ltb (length costs) m (omega arith) in
-    let found = lt-ltb (c .loop-e .e) m (c .loop-e-test .taken) in
-    let place = first-is m (too-large costs) (c .loop-e .e) (c .loop-e-test .taken) here (c .loop-e .inv) in
-    simp (enough, place, found)
-
-pub loop-e-again : need.loop-e-again
-unfolding costs-end
-loop-e-again c = below-more _ _ (c .loop-e .inv) (lt-leb _ _ (c .if-costs-e-ge-COSTS-END .left))
-
 pub returns : need.returns
 unfolding costs-refused
-returns c =
-    let costs = c .args .costs .now in
-    let m = c .args .parts in
-    let enough = le-ltb (length costs) m (omega arith) in
-    let none = none-from m (too-large costs) (λ k h. c .loop-e .inv k (omega arith)) in
-    simp (enough, none)
+returns c = simp (le-ltb (length (c .args .costs .now)) (c .args .parts) (c .if-costs-parts .left)) (c .large-cost .ensures)
