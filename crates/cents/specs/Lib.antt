@@ -1,0 +1,12 @@
+pub mod Rank
+pub mod Split
+pub mod Closing
+pub mod Threshold
+pub mod Level
+pub mod Equal
+pub mod Near
+pub mod Theorems
+pub mod Limits
+pub mod Marking
+pub mod Asked
+pub mod Answer
