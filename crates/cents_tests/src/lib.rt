@@ -53,9 +53,9 @@ mod tests {
         year(
             &[3, 0, 1, 0, 7],
             &[10],
-            [1, 0, 0, 0],
+            [1, 0, 0, 6],
             [3, 4, 3, 9],
-            [1, 1, 0, 0],
+            [1, 1, 0, 6],
         )?;
         year(
             &[3, 0, 2, 0, 3, 6],
@@ -65,6 +65,13 @@ mod tests {
             [1, 1, 0, 0],
         )?;
         year(&[1, 0, 1, 0, 1], &[5], [0; 4], [5, 9, 9, 9], [0; 4])?;
+        year(
+            &[2, 0, 1, 0, 3],
+            &[999_999_999_999],
+            [4, 3, 0, 0],
+            [499_999_999_999, 500_000_000_000, 9, 9],
+            [4, 4, 0, 0],
+        )?;
         year(
             &[4, 0, 3, 0, 15, 7, 3],
             &[10, 10, 10],
@@ -107,5 +114,35 @@ mod tests {
         check_eq(sums, [7u64; 3])?;
         check_eq(split_costs(&line, &[9, 10], &mut odd, &mut sums), Ok(()))?;
         check_eq(sums, [3, 8, 8])
+    }
+
+    // The lowest farm is refused whose count is too large, or would be.
+    #[test]
+    fn counts_refused() -> Result<(), Fail> {
+        let mut words = [0u64; 2];
+        let size = read_line(&[3, 0, 2, 0, 7, 6], &mut words)?;
+        let line = Line {
+            size,
+            words: &mut words,
+        };
+        let before = [0, 4_294_967_295u64, 4_294_967_296];
+        let mut odd = before;
+        let mut sums = [7u64; 3];
+        check_eq(
+            split_costs(&line, &[1, 0], &mut odd, &mut sums),
+            Err(Refusal::Account {
+                at: 2,
+                whose: Holder::Farm(Farm(2)),
+            }),
+        )?;
+        check_eq(
+            split_costs(&line, &[0, 1], &mut odd, &mut sums),
+            Err(Refusal::Account {
+                at: 1,
+                whose: Holder::Farm(Farm(1)),
+            }),
+        )?;
+        check_eq(odd, before)?;
+        check_eq(sums, [7u64; 3])
     }
 }

@@ -12,7 +12,7 @@ pub record Fraction : Type 0 where
   pub bottom : ℕ
   pub positive : 0 < bottom
 
--- a / b; b is above 0 wherever it is used, and 1 stands for a 0
+-- a / b; 1 stands for a b of 0, which no line whose parts are all used gives, and no weights that fit it
 unfoldable pub over : ℕ → ℕ → Fraction
 over a b = record { top = pos a; bottom = suc (pred b); positive = suc-le-suc zero-le }
 
