@@ -13,6 +13,7 @@ use Rattle.share.specs.Weight.{whole, once}
 use Rattle.cents.specs.Rank.{rank}
 use Rattle.cents.specs.Split.{whole-cents, broken, rest, pays-odd}
 use Rattle.cents.specs.Theorems.{Equal-users}
+use Rattle.cents.proofs.Split.{odd-count}
 
 -- who counts once or not at all
 once-div : (b : Bool) (c d : ℕ) → one b * c / d ≡ one b * (c / d)
@@ -33,7 +34,12 @@ once-some false m = rw (zero-mul (suc m)) refl
 
 pub equal-users : Equal-users
 unfolding whole-cents rest pays-odd broken whole users
-equal-users l e c odd i = record { each = once-div (l .uses i e) c u ∙ once-times (l .uses i e) (c / u); left = rests; who = who (c % u) refl }
+equal-users l e c odd i = record {
+  each = once-div (l .uses i e) c u ∙ once-times (l .uses i e) (c / u);
+  left = rests;
+  who = who (c % u) refl;
+  many = λ used. odd-count l (once l) e c odd used ∙ rests;
+}
   where
     n : ℕ
     n = l .farms

@@ -13,8 +13,7 @@ use Rattle.std.proofs.shelf.Tests.{lt-ltb, le-ltb}
 use Rattle.number.specs.Sum.{sum, one, count}
 use Rattle.number.proofs.Sums.{sum-next, sum-same, sum-zero, count-most}
 use Rattle.share.specs.Answer.{at}
-use Rattle.cents.specs.Marking.{fewer, Listed}
-use Rattle.cents.specs.Threshold.{under}
+use Rattle.cents.specs.Marking.{under, fewer, Listed}
 
 -- none is below the least
 pub fewer-none : (keys : List ℕ) (t : ℕ) → ((j : ℕ) → j < length keys → t ≤ at keys j) → fewer keys t ≡ 0

@@ -1,7 +1,6 @@
 pub mod Rank
 pub mod Split
 pub mod Closing
-pub mod Threshold
 pub mod Level
 pub mod Equal
 pub mod Near

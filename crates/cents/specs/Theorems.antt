@@ -2,7 +2,7 @@
 use mathlib.Core.Bool.{Bool, true, false, _&&_}
 use mathlib.Core.List.{List}
 use mathlib.Core.Path.{_≡_}
-use Prim.Native.Nat.{ℕ, _+_, _*_, _≤_, _<_}
+use Prim.Native.Nat.{ℕ, _+_, _-_, _*_, _≤_, _<_}
 use lib.Dec.{ltb}
 use Rattle.std.specs.shelf.Lists.{All}
 use Rattle.number.specs.Sum.{sum, count}
@@ -14,7 +14,7 @@ use Rattle.share.specs.Fair.{Fair}
 use Rattle.cents.specs.Rank.{rank}
 use Rattle.cents.specs.Split.{broken, rest, pays-odd, cents, odd-after}
 use Rattle.cents.specs.Closing.{odds, charged}
-use Rattle.cents.specs.Threshold.{under, selected}
+use Rattle.cents.specs.Marking.{under, chosen}
 use Rattle.cents.specs.Equal.{Equal-split}
 use Rattle.cents.specs.Near.{Near, Within}
 use Rattle.cents.specs.Level.{Differ, Split-of, odd-row, Both, Alike, own}
@@ -75,11 +75,12 @@ Free-part =
 abbrev pub Equal-users : Type 0
 Equal-users = (l : Line) (e c : ℕ) (odd : ℕ → ℕ) (i : ℕ) → Equal-split l e c odd i
 
--- if r or fewer have paid less than t, and r or more have paid t or less, then those below t and the first ones at t are those with a rank below r
+-- if r or fewer of those who pass p have paid less than t, and r or more have paid t or less, then those below t and the first ones at t, r in all, are those with a rank below r
 abbrev pub Threshold-selects : Type 0
 Threshold-selects =
-    (n : ℕ) (p : ℕ → Bool) (odd : ℕ → ℕ) (r t i : ℕ) → i < n → p i ≡ true →
-    under n p odd t ≤ r → r ≤ under n p odd (t + 1) → ltb (rank n p odd i) r ≡ selected n p odd r t i
+    (n : ℕ) (p : ℕ → Bool) (odd : ℕ → ℕ) (r t i : ℕ) → i < n →
+    under n p odd t ≤ r → r ≤ under n p odd (t + 1) →
+    (p i && ltb (rank n p odd i) r) ≡ chosen p odd t (r - under n p odd t) i
 
 -- what all farms pay for a year adds up to its costs
 abbrev pub Closing-adds-up : Type 0

@@ -53,11 +53,12 @@ fn split_parts(line: &Line, costs: &[u64], odd: &mut [u64], sums: &mut [u64])
     }
 }
 
-// Copies the first n counts; one that is too large is taken as the end, so that it stays too large.
+// Copies the first n counts; one that is too large is taken as the end, so that it stays too large. The rest stays.
 fn read_front(odd: &[u64], n: usize, counts: &mut [u64])
     requires lent { ⌜ n ≤ length (now odd) ⌝ }
     requires room { ⌜ n ≤ length (now counts) ⌝ }
-    ensures { λ _. ⌜ ((i : ℕ) → i < n → at (now (counts .exit)) i ≡ min (at (now (odd .entry)) i) counts-end) ⌝ }
+    ensures front { λ _. ⌜ ((i : ℕ) → i < n → at (now (counts .exit)) i ≡ min (at (now (odd .entry)) i) counts-end) ⌝ }
+    ensures rest { λ _. ⌜ drop n (now (counts .exit)) ≡ drop n (now (counts .entry)) ⌝ }
 {
     for i in 0..n {
         counts[i] = odd[i].min(COUNTS_END);

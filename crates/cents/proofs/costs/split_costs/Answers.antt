@@ -41,7 +41,7 @@ split-parts-requires c κs =
     let line = c .args .line .now in
     let fine = costs-fine (line .size .parts) (c .args .costs .now) (sym (c .in-rest .ensures tt)) in
     record {
-      asked = record { enough = fine .0; small = fine .1; counts = omega (arith, line .farms .1, c .read-front .kept .counts); low = λ i h. omega (arith, c .read-front .ensures i h) };
+      asked = record { enough = fine .0; small = fine .1; counts = omega (arith, line .farms .1, c .read-front .kept .counts); low = λ i h. omega (arith, c .read-front .ensures .front i h) };
       room = line .farms .1;
       clear = λ i h. getD-replicate most-farms i 0 0 (omega (arith, line .farms .1));
     }
@@ -55,7 +55,7 @@ returns-then-at-farms c =
     let l = held (c .args .line .now) in
     let costs = c .args .costs .now in
     let odd = c .args .odd .now in
-    let same = first-capped l costs odd (c .read-front .last .counts) (c .read-front .ensures) (c .split-parts .last .odd) (c .split-parts .ensures .counts) in
+    let same = first-capped l costs odd (c .read-front .last .counts) (c .read-front .ensures .front) (c .split-parts .last .odd) (c .split-parts .ensures .counts) in
     record {
       refused =
           sym (split-on l costs odd (length (c .args .sums .now)) _ (c .if-odd-farms .left) (c .if-sums-farms .left) (c .in-rest .ensures tt)
@@ -80,9 +80,9 @@ returns c =
     let odd = c .args .odd .now in
     let counts = c .read-front .last .counts in
     let then = c .split-parts .last .odd in
-    let same = first-capped l costs odd counts (c .read-front .ensures) then (c .split-parts .ensures .counts) in
+    let same = first-capped l costs odd counts (c .read-front .ensures .front) then (c .split-parts .ensures .counts) in
     let none = subst (λ n. line .size .farms ≤ n) (c .first-past-at .ensures) (c .if-at-farms .left) in
-    let cents = charged-capped l costs odd counts (c .read-front .ensures) then (c .split-parts .ensures .counts) none in
+    let cents = charged-capped l costs odd counts (c .read-front .ensures .front) then (c .split-parts .ensures .counts) none in
     let fine = costs-fine (line .size .parts) costs (sym (c .in-rest .ensures tt)) in
     let paid : (i : ℕ) → i < line .size .farms → at (c .write-front-2 .last .to) i ≡ charged l (once l) (at costs) (at odd) i (line .size .parts) =
     λ i h. c .write-front-2 .ensures .front i h ∙ c .split-parts .ensures .cents i h ∙ cents i h in
@@ -95,7 +95,7 @@ returns c =
         all = sum-same (line .size .farms) _ _ paid ∙ closing-adds-up l (once l) (once-fits l (line .used)) (at costs) (at odd);
         small = λ i h.
             omega (arith, c .write-front-2 .ensures .front i h, c .split-parts .ensures .cents i h, due-small l costs counts i (line .size .parts) (fine .1) h (omega arith), line .parts .1);
-        counts = λ i h. c .write-front .ensures .front i h ∙ c .split-parts .ensures .counts i h ∙ odds-capped l costs odd counts (c .read-front .ensures) then (c .split-parts .ensures .counts) none i h;
+        counts = λ i h. c .write-front .ensures .front i h ∙ c .split-parts .ensures .counts i h ∙ odds-capped l costs odd counts (c .read-front .ensures .front) then (c .split-parts .ensures .counts) none i h;
         cents-rest = c .write-front-2 .ensures .rest;
         counts-rest = c .write-front .ensures .rest;
       };
