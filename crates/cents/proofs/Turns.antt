@@ -31,10 +31,12 @@ paid l costs odd k i = odds l (once l) (at costs) (at odd) k i
 abbrev pub due : Line → (costs odd : List ℕ) → ℕ → ℕ → ℕ
 due l costs odd k i = charged l (once l) (at costs) (at odd) i k
 
--- rows that hold the counts and the sums of all farms after the first k parts
-pub record Upto (l : Line) (costs odd₀ : List ℕ) (k : ℕ) (odd sums : List ℕ) : Type 0 where
+-- rows that hold the counts and the sums of all farms after the first k parts; what stands behind the farms' stays
+pub record Upto (l : Line) (costs odd₀ sums₀ : List ℕ) (k : ℕ) (odd sums : List ℕ) : Type 0 where
   pub counts : (i : ℕ) → i < l .farms → at odd i ≡ paid l costs odd₀ k i
   pub cents : (i : ℕ) → i < l .farms → at sums i ≡ due l costs odd₀ k i
+  pub counts-rest : (i : ℕ) → l .farms ≤ i → at odd i ≡ at odd₀ i
+  pub cents-rest : (i : ℕ) → l .farms ≤ i → at sums i ≡ at sums₀ i
 
 -- rows that hold the counts and the sums of all farms where part e's cost c is split among the first i farms, and not yet among the others
 pub record Halfway (l : Line) (e c : ℕ) (odd₁ sums₁ : List ℕ) (i : ℕ) (odd sums : List ℕ) : Type 0 where
@@ -97,13 +99,18 @@ module _ (l : Line) (e c : ℕ) (odd₁ sums₁ : List ℕ) where
   halfway-at i a b h = rw (a, b) h
 
 module _ (l : Line) (costs odd₀ : List ℕ) where
-  pub upto-none : (sums : List ℕ) → ((i : ℕ) → i < l .farms → at sums i ≡ 0) → Upto l costs odd₀ 0 odd₀ sums
+  pub upto-none : (sums : List ℕ) → ((i : ℕ) → i < l .farms → at sums i ≡ 0) → Upto l costs odd₀ sums 0 odd₀ sums
   upto-none sums zeros =
-      record { counts = λ i _. sym (odds-none l (once l) (at costs) (at odd₀) i); cents = λ i h. zeros i h ∙ sym (charged-none l (once l) (at costs) (at odd₀) i) }
+      record {
+        counts = λ i _. sym (odds-none l (once l) (at costs) (at odd₀) i);
+        cents = λ i h. zeros i h ∙ sym (charged-none l (once l) (at costs) (at odd₀) i);
+        counts-rest = λ i _. refl;
+        cents-rest = λ i _. refl;
+      }
 
   -- one part on
-  pub upto-more : {k : ℕ} {odd₁ sums₁ odd sums : List ℕ} (n : ℕ) → Upto l costs odd₀ k odd₁ sums₁ → l .farms ≤ n → Halfway l k (at costs k) odd₁ sums₁ n odd sums → Upto l costs odd₀ (k + 1) odd sums
-  upto-more {k} {odd₁} {sums₁} n up all h =
+  pub upto-more : {k : ℕ} {sums₀ odd₁ sums₁ odd sums : List ℕ} (n : ℕ) → Upto l costs odd₀ sums₀ k odd₁ sums₁ → n ≡ l .farms → Halfway l k (at costs k) odd₁ sums₁ n odd sums → Upto l costs odd₀ sums₀ (k + 1) odd sums
+  upto-more {k} {sums₀} {odd₁} {sums₁} n up all h =
       record {
         counts = λ i g.
             h .counts-before i (omega arith) ∙ odd-after-same l (once l) k (at costs k) (at odd₁) (paid l costs odd₀ k) (up .counts) i g
@@ -111,18 +118,22 @@ module _ (l : Line) (costs odd₀ : List ℕ) where
         cents = λ i g.
             h .cents-before i (omega arith) ∙ ap₂ _+_ (up .cents i g) (cents-same l (once l) k (at costs k) (at odd₁) (paid l costs odd₀ k) (up .counts) i g)
             ∙ sym (charged-next l (once l) (at costs) (at odd₀) i k);
+        counts-rest = λ i g. h .counts-after i (omega arith) ∙ up .counts-rest i g;
+        cents-rest = λ i g. h .cents-after i (omega arith) ∙ up .cents-rest i g;
       }
 
   -- one part on that costs nothing
-  pub upto-free : {k : ℕ} {odd sums : List ℕ} → Upto l costs odd₀ k odd sums → at costs k ≡ 0 → Upto l costs odd₀ (k + 1) odd sums
+  pub upto-free : {k : ℕ} {sums₀ odd sums : List ℕ} → Upto l costs odd₀ sums₀ k odd sums → at costs k ≡ 0 → Upto l costs odd₀ sums₀ (k + 1) odd sums
   upto-free {k} up free =
       record {
         counts = λ i g. up .counts i g ∙ sym (odds-free l (once l) (at costs) (at odd₀) i k free);
         cents = λ i g. up .cents i g ∙ sym (charged-free l (once l) (at costs) (at odd₀) i k free);
+        counts-rest = up .counts-rest;
+        cents-rest = up .cents-rest;
       }
 
   -- the same rows and parts under other names
-  pub upto-at : {k : ℕ} {odd sums : List ℕ} (k′ : ℕ) {odd′ sums′ : List ℕ} → k′ ≡ k → odd′ ≡ odd → sums′ ≡ sums → Upto l costs odd₀ k odd sums → Upto l costs odd₀ k′ odd′ sums′
+  pub upto-at : {k : ℕ} {sums₀ odd sums : List ℕ} (k′ : ℕ) {odd′ sums′ : List ℕ} → k′ ≡ k → odd′ ≡ odd → sums′ ≡ sums → Upto l costs odd₀ sums₀ k odd sums → Upto l costs odd₀ sums₀ k′ odd′ sums′
   upto-at k′ n a b up = rw (n, a, b) up
 
   -- sums stay small
@@ -130,7 +141,7 @@ module _ (l : Line) (costs odd₀ : List ℕ) where
   due-small i k small h g = omega (arith, charged-most l (once l) (at costs) (at odd₀) i k h, sum-most k costs-end (at costs) (λ e p. omega (arith, small e (omega arith))))
 
   -- there is room for what one more part adds to a sum and to a count
-  pub room : {k : ℕ} {odd sums : List ℕ} (u : ℕ) → Asked l costs odd₀ → l .parts ≤ most-parts → Upto l costs odd₀ k odd sums → k < l .parts → Room l (at costs k / u) odd sums
+  pub room : {k : ℕ} {sums₀ odd sums : List ℕ} (u : ℕ) → Asked l costs odd₀ → l .parts ≤ most-parts → Upto l costs odd₀ sums₀ k odd sums → k < l .parts → Room l (at costs k / u) odd sums
   unfolding most-parts costs-end counts-end
   room {k} u asked few up h i g = (
     omega (arith, up .cents i g, due-small i k (asked .small) g (omega arith), div-le-self (at costs k) u, asked .small k h),

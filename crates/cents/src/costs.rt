@@ -35,6 +35,8 @@ fn split_parts(line: &Line, costs: &[u64], odd: &mut [u64], sums: &mut [u64])
     requires clear { ⌜ ((i : ℕ) → i < now line .size .farms → at (now sums) i ≡ 0) ⌝ }
     ensures counts { λ _. ⌜ ((i : ℕ) → i < now (line .entry) .size .farms → at (now (odd .exit)) i ≡ odds-then (held (now (line .entry))) (now (costs .entry)) (now (odd .entry)) i) ⌝ }
     ensures cents { λ _. ⌜ ((i : ℕ) → i < now (line .entry) .size .farms → at (now (sums .exit)) i ≡ charged (held (now (line .entry))) (once (held (now (line .entry)))) (at (now (costs .entry))) (at (now (odd .entry))) i (now (line .entry) .size .parts)) ⌝ }
+    ensures counts_rest { λ _. ⌜ ((i : ℕ) → now (line .entry) .size .farms ≤ i → at (now (odd .exit)) i ≡ at (now (odd .entry)) i) ⌝ }
+    ensures cents_rest { λ _. ⌜ ((i : ℕ) → now (line .entry) .size .farms ≤ i → at (now (sums .exit)) i ≡ at (now (sums .entry)) i) ⌝ }
 {
     let mut payers = [0; ROW_WORDS];
     for e in 0..line.size.parts {

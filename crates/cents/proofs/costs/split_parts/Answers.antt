@@ -60,7 +60,7 @@ loop-e-again c =
     let e = c .loop-e .e in
     elim (c .if-cost-gt0 .came) [
       | then-cost-gt0·else-loop-i-test w ↦
-          (upto-at l costs odd (e + 1) refl (w .odd-is) (w .sums-is) (upto-more l costs odd (w .loop-i .i) (c .loop-e .inv .0) (w .loop-i-test .left) (w .loop-i .inv .0)), ap length (w .payers-is) ∙ w .write-payers .kept .payers ∙ c .loop-e .inv .1)
+          (upto-at l costs odd (e + 1) refl (w .odd-is) (w .sums-is) (upto-more l costs odd (w .loop-i .i) (c .loop-e .inv .0) (omega (arith, w .loop-i-test .left)) (w .loop-i .inv .0)), ap length (w .payers-is) ∙ w .write-payers .kept .payers ∙ c .loop-e .inv .1)
       | else-cost-gt0 w ↦
           (upto-at l costs odd (e + 1) refl (w .odd-is) (w .sums-is) (upto-free l costs odd (c .loop-e .inv .0) (omega (arith, w .if-cost-gt0 .left))), ap length (w .payers-is) ∙ c .loop-e .inv .1)
     ]
@@ -69,4 +69,4 @@ pub returns : need.returns
 returns c =
     let all : c .loop-e .e ≡ c .args .line .now .size .parts = omega arith in
     let up = upto-at (held (c .args .line .now)) (c .args .costs .now) (c .args .odd .now) (c .args .line .now .size .parts) (sym all) refl refl (c .loop-e .inv .0) in
-    record { counts = up .counts; cents = up .cents }
+    record { counts = up .counts; cents = up .cents; counts-rest = up .counts-rest; cents-rest = up .cents-rest }
