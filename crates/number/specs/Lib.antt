@@ -5,3 +5,4 @@ pub mod Laws
 pub mod Fraction
 pub mod LowestTerms
 pub mod Reduced
+pub mod Order

@@ -1,23 +1,27 @@
 // The order of fractions, by the products of the top of each with the bottom of the other.
-ghost use Rattle.std.specs.Prelude.{IsSomeAnd};
+ghost use Rattle.std.specs.Prelude.{◌≡◌, IsSomeAnd, refl};
+ghost use Rattle.std.specs.Cmp.{partial_order_from_agreeing_total};
+ghost use Rattle.std.specs.Ordering.{as_partial_cmp};
 ghost use Rattle.number.specs.Reduced.{value, Ordered};
-ghost use Rattle.std.specs.Cmp.Rules.{comparing};
-ghost use Rattle.std.proofs.Common.{rules, arith};
+ghost use Rattle.number.specs.Order.{crosswise, crosswise_total, crosswise_ties};
 
 use crate::fraction::Fraction;
 use std::cmp::Ordering;
 
 impl Ord for Fraction {
-    ghost orders = { λ x y r. Ordered (value x) (value y) r };
+    ghost cmp = { crosswise };
 
-    ghost total = { first_of (Prim.search (comparing, rules), Prim.grind (arith, Self.row.coded.inj)) };
+    ghost total = { crosswise_total };
 
-    ghost matches_partial_cmp = { first_of (Prim.search (comparing, rules), Prim.grind (arith, Self.row.coded.inj)) };
+    ghost matches_partial_cmp = { λ x y. refl };
 
-    ghost matches_eq = { first_of (Prim.search (comparing, rules), Prim.grind (arith, Self.row.coded.inj)) };
+    ghost matches_eq = { crosswise_ties };
 
     // Which of the two is the smaller number.
-    fn cmp(&self, other: &Fraction) -> Ordering {
+    fn cmp(&self, other: &Fraction) -> Ordering
+        ensures answer { result ≡ crosswise self.now other.now }
+        ensures ordered { Ordered (value self.now) (value other.now) result }
+    {
         let left = self.top as u128 * other.bottom as u128;
         let right = other.top as u128 * self.bottom as u128;
         left.cmp(&right)
@@ -25,12 +29,15 @@ impl Ord for Fraction {
 }
 
 impl PartialOrd for Fraction {
-    ghost compares = { λ x y r. IsSomeAnd r (λ o. Ordered (value x) (value y) o) };
+    ghost partial_cmp = { as_partial_cmp crosswise };
 
-    ghost laws = { first_of (Prim.search (comparing, rules), Prim.grind (arith, Self.row.coded.inj)) };
+    ghost laws = { partial_order_from_agreeing_total crosswise crosswise_total (λ x y. refl) crosswise_ties };
 
     // There is always an answer.
-    fn partial_cmp(&self, other: &Fraction) -> Option<Ordering> {
+    fn partial_cmp(&self, other: &Fraction) -> Option<Ordering>
+        ensures answer { result ≡ as_partial_cmp crosswise self.now other.now }
+        ensures ordered { IsSomeAnd result (λ o. Ordered (value self.now) (value other.now) o) }
+    {
         Some(self.cmp(other))
     }
 }

@@ -28,45 +28,45 @@ returns-in-Some c =
       answer = (refl, refl);
     }
 
-pub read-front-requires : goal.read-front-requires
+pub read_front-requires : goal.read_front-requires
 unfolding most_farms
-read-front-requires c = record { lent = c.if-odd-farms.false; room = c.args.line.now.farms.1 }
+read_front-requires c = record { lent = c.if-odd-farms.false; room = c.args.line.now.farms.1 }
 
-pub split-parts-requires : goal.split-parts-requires
+pub split_parts-requires : goal.split_parts-requires
 unfolding most_farms
-split-parts-requires c =
+split_parts-requires c =
     let line = c.args.line.now in
-    let fine = costs_fine line.size.parts c.args.costs.now (sym c.in-default.ensures) in
+    let fine = costs_fine line.size.parts c.args.costs.now (sym c.in_default.ensures) in
     record {
-      asked = record { enough = fine.0; small = fine.1; counts = omega (arith, line.farms.1, c.read-front.auto.counts); low = λ i h. omega (arith, c.read-front.ensures.front i h) };
+      asked = record { enough = fine.0; small = fine.1; counts = omega (arith, line.farms.1, c.read_front.auto.counts); low = λ i h. omega (arith, c.read_front.ensures.front i h) };
       room = line.farms.1;
       clear = λ i h. get_or-replicate most_farms i 0 0 (omega (arith, line.farms.1));
     }
 
-pub first-past-at-requires : goal.first-past-at-requires
+pub first_past-at-requires : goal.first_past-at-requires
 unfolding most_farms
-first-past-at-requires c = omega (arith, c.args.line.now.farms.1, c.split-parts.auto.odd, c.read-front.auto.counts)
+first_past-at-requires c = omega (arith, c.args.line.now.farms.1, c.split_parts.auto.odd, c.read_front.auto.counts)
 
 pub returns-then-at-farms : goal.returns-then-at-farms
 returns-then-at-farms c =
     let l = held c.args.line.now in
     let costs = c.args.costs.now in
     let odd = c.args.odd.now in
-    let same = first_capped l costs odd c.read-front.new.counts c.read-front.ensures.front c.split-parts.new.odd c.split-parts.ensures.counts in
+    let same = first_capped l costs odd c.read_front.new.counts c.read_front.ensures.front c.split_parts.new.odd c.split_parts.ensures.counts in
     record {
       refused =
-          sym (split_on l costs odd (length c.args.sums.now) _ c.if-odd-farms.false c.if-sums-farms.false c.in-default.ensures
-          ∙ counts_past l costs odd c.first-past-at.result (c.first-past-at.ensures ∙ same) c.if-at-farms.true);
+          sym (split_on l costs odd (length c.args.sums.now) _ c.if-odd-farms.false c.if-sums-farms.false c.in_default.ensures
+          ∙ counts_past l costs odd c.first_past-at.result (c.first_past-at.ensures ∙ same) c.if-at-farms.true);
       answer = (refl, refl);
     }
 
-pub write-front-requires : goal.write-front-requires
+pub write_front-requires : goal.write_front-requires
 unfolding most_farms
-write-front-requires c = record { known = omega (arith, c.args.line.now.farms.1, c.split-parts.auto.odd, c.read-front.auto.counts); room = c.if-odd-farms.false }
+write_front-requires c = record { known = omega (arith, c.args.line.now.farms.1, c.split_parts.auto.odd, c.read_front.auto.counts); room = c.if-odd-farms.false }
 
-pub write-front-requires-2 : goal.write-front-requires-2
+pub write_front-requires-2 : goal.write_front-requires-2
 unfolding most_farms
-write-front-requires-2 c = record { known = omega (arith, c.args.line.now.farms.1, c.split-parts.auto.sums); room = c.if-sums-farms.false }
+write_front-requires-2 c = record { known = omega (arith, c.args.line.now.farms.1, c.split_parts.auto.sums); room = c.if-sums-farms.false }
 
 pub returns : goal.returns
 unfolding most_parts costs_end
@@ -75,25 +75,25 @@ returns c =
     let l = held line in
     let costs = c.args.costs.now in
     let odd = c.args.odd.now in
-    let counts = c.read-front.new.counts in
-    let then = c.split-parts.new.odd in
-    let same = first_capped l costs odd counts c.read-front.ensures.front then c.split-parts.ensures.counts in
-    let none = subst (λ n. line.size.farms ≤ n) c.first-past-at.ensures c.if-at-farms.false in
-    let cents = charged_capped l costs odd counts c.read-front.ensures.front then c.split-parts.ensures.counts none in
-    let fine = costs_fine line.size.parts costs (sym c.in-default.ensures) in
-    let paid : (i : ℕ) → i < line.size.farms → at c.write-front-2.new.to i ≡ charged l (once l) (at costs) (at odd) i line.size.parts =
-    λ i h. c.write-front-2.ensures.front i h ∙ c.split-parts.ensures.cents i h ∙ cents i h in
+    let counts = c.read_front.new.counts in
+    let then = c.split_parts.new.odd in
+    let same = first_capped l costs odd counts c.read_front.ensures.front then c.split_parts.ensures.counts in
+    let none = subst (λ n. line.size.farms ≤ n) c.first_past-at.ensures c.if-at-farms.false in
+    let cents = charged_capped l costs odd counts c.read_front.ensures.front then c.split_parts.ensures.counts none in
+    let fine = costs_fine line.size.parts costs (sym c.in_default.ensures) in
+    let paid : (i : ℕ) → i < line.size.farms → at c.write_front-2.new.to i ≡ charged l (once l) (at costs) (at odd) i line.size.parts =
+    λ i h. c.write_front-2.ensures.front i h ∙ c.split_parts.ensures.cents i h ∙ cents i h in
     record {
       refused =
-          sym (split_on l costs odd (length c.args.sums.now) _ c.if-odd-farms.false c.if-sums-farms.false c.in-default.ensures
-          ∙ counts_fine l costs odd c.first-past-at.result (c.first-past-at.ensures ∙ same) c.if-at-farms.false);
+          sym (split_on l costs odd (length c.args.sums.now) _ c.if-odd-farms.false c.if-sums-farms.false c.in_default.ensures
+          ∙ counts_fine l costs odd c.first_past-at.result (c.first_past-at.ensures ∙ same) c.if-at-farms.false);
       answer = record {
         cents = paid;
         all = sum_same line.size.farms _ _ paid ∙ closing_adds_up_lem l (once l) (once_fits_lem l line.used) (at costs) (at odd);
         small = λ i h.
-            omega (arith, c.write-front-2.ensures.front i h, c.split-parts.ensures.cents i h, due_small l costs counts i line.size.parts fine.1 h (omega arith), line.parts.1);
-        counts = λ i h. c.write-front.ensures.front i h ∙ c.split-parts.ensures.counts i h ∙ odds_capped l costs odd counts c.read-front.ensures.front then c.split-parts.ensures.counts none i h;
-        cents_rest = c.write-front-2.ensures.rest;
-        counts_rest = c.write-front.ensures.rest;
+            omega (arith, c.write_front-2.ensures.front i h, c.split_parts.ensures.cents i h, due_small l costs counts i line.size.parts fine.1 h (omega arith), line.parts.1);
+        counts = λ i h. c.write_front.ensures.front i h ∙ c.split_parts.ensures.counts i h ∙ odds_capped l costs odd counts c.read_front.ensures.front then c.split_parts.ensures.counts none i h;
+        cents_rest = c.write_front-2.ensures.rest;
+        counts_rest = c.write_front.ensures.rest;
       };
     }

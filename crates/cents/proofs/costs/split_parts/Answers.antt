@@ -9,9 +9,9 @@ use Rattle.cents.proofs.costs.split_parts.Goals.{then-uses, else-uses, then-cost
 pub loop-e-init : goal.loop-e-init
 loop-e-init c = (upto_none (held c.args.line.now) c.args.costs.now c.args.odd.now c.args.sums.now c.requires.clear, refl)
 
-pub write-payers-requires : goal.write-payers-requires
+pub write_payers-requires : goal.write_payers-requires
 unfolding most_farms
-write-payers-requires c =
+write_payers-requires c =
     record { part = c.loop-e-test.true; counts = omega (arith, c.requires.asked.counts); room = omega (arith, c.args.line.now.farms.1, c.loop-e.invariant.1) }
 
 pub loop-i-init : goal.loop-i-init
@@ -21,18 +21,18 @@ loop-i-init c =
       room (held line) c.args.costs.now c.args.odd.now c.users.result c.requires.asked line.parts.1 c.loop-e.invariant.0 c.loop-e-test.true,
     )
 
-pub one-of-more-requires : goal.one-of-more-requires
+pub one_of-more-requires : goal.one_of-more-requires
 unfolding most_farms
-one-of-more-requires c = omega (arith, c.args.line.now.farms.1, c.write-payers.auto.payers, c.loop-e.invariant.1)
+one_of-more-requires c = omega (arith, c.args.line.now.farms.1, c.write_payers.auto.payers, c.loop-e.invariant.1)
 
-pub overflow-add-sums : goal.overflow-add-sums
-overflow-add-sums c = omega (arith, c.loop-i.invariant.1 c.loop-i.i c.loop-i-test.true)
+pub overflow_add-sums : goal.overflow_add-sums
+overflow_add-sums c = omega (arith, c.loop-i.invariant.1 c.loop-i.i c.loop-i-test.true)
 
-pub overflow-add-sums-then-uses : goal.overflow-add-sums-then-uses
-overflow-add-sums-then-uses c = omega (arith, c.loop-i.invariant.1 c.loop-i.i c.loop-i-test.true, c.loop-i.invariant.0.cents_after c.loop-i.i (omega arith))
+pub overflow_add-sums-then-uses : goal.overflow_add-sums-then-uses
+overflow_add-sums-then-uses c = omega (arith, c.loop-i.invariant.1 c.loop-i.i c.loop-i-test.true, c.loop-i.invariant.0.cents_after c.loop-i.i (omega arith))
 
-pub overflow-add-odd : goal.overflow-add-odd
-overflow-add-odd c = omega (arith, c.loop-i.invariant.1 c.loop-i.i c.loop-i-test.true, c.loop-i.invariant.0.counts_after c.loop-i.i (omega arith))
+pub overflow_add-odd : goal.overflow_add-odd
+overflow_add-odd c = omega (arith, c.loop-i.invariant.1 c.loop-i.i c.loop-i-test.true, c.loop-i.invariant.0.counts_after c.loop-i.i (omega arith))
 
 pub loop-i-preserved : goal.loop-i-preserved
 loop-i-preserved c =
@@ -42,7 +42,7 @@ loop-i-preserved c =
       | then-uses w ↦ (
         halfway_at l _ _ _ _ (i + 1) w.odd-is w.sums-is
             (halfway_user l _ _ _ _ c.users.result _ c.loop-i.invariant.0 (omega (arith, c.requires.asked.counts)) (omega arith) (sym c.uses.ensures ∙ w.if-uses.true) c.users.ensures
-            (w.one-of-more.ensures.bit ∙ ap one (c.write-payers.ensures i))),
+            (w.one_of-more.ensures.bit ∙ ap one (c.write_payers.ensures i))),
         c.loop-i.invariant.1,
       )
       | else-uses w ↦
@@ -57,7 +57,7 @@ loop-e-preserved c =
     let e = c.loop-e.e in
     elim c.if-cost-gt0.branch [
       | then-cost-gt0+else-loop-i-test w ↦
-          (upto_at l costs odd (e + 1) refl w.odd-is w.sums-is (upto_more l costs odd w.loop-i.i c.loop-e.invariant.0 (omega (arith, w.loop-i-test.false)) w.loop-i.invariant.0), ap length w.payers-is ∙ w.write-payers.auto.payers ∙ c.loop-e.invariant.1)
+          (upto_at l costs odd (e + 1) refl w.odd-is w.sums-is (upto_more l costs odd w.loop-i.i c.loop-e.invariant.0 (omega (arith, w.loop-i-test.false)) w.loop-i.invariant.0), ap length w.payers-is ∙ w.write_payers.auto.payers ∙ c.loop-e.invariant.1)
       | else-cost-gt0 w ↦
           (upto_at l costs odd (e + 1) refl w.odd-is w.sums-is (upto_free l costs odd c.loop-e.invariant.0 (omega (arith, w.if-cost-gt0.false))), ap length w.payers-is ∙ c.loop-e.invariant.1)
     ]

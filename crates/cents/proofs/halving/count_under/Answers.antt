@@ -9,8 +9,8 @@ pub loop-key-init : goal.loop-key-init
 unfolding sum
 loop-key-init c = refl
 
-pub overflow-add-n : goal.overflow-add-n
-overflow-add-n c =
+pub overflow_add-n : goal.overflow_add-n
+overflow_add-n c =
     let below : ℕ → Bool = λ j. ltb (get_or c.args.keys.now j 0) c.args.end in
     omega (arith, count_most c.loop-key.key-index below, byte_one (below c.loop-key.key-index))
 

@@ -13,8 +13,8 @@ pub loop-i-preserved : goal.loop-i-preserved
 loop-i-preserved c =
     elim c.if-uses.branch [
       | then-uses w ↦
-          marked_at _ _ _ _ _ w.payers-is (w.left-is ∙ w.saturating-sub-left.ensures)
-          (marked_more _ _ _ _ _ c.loop-i.invariant (sym c.uses.ensures ∙ w.if-uses.true) (omega arith) w.one-more-more.ensures)
+          marked_at _ _ _ _ _ w.payers-is (w.left-is ∙ w.saturating_sub-left.ensures)
+          (marked_more _ _ _ _ _ c.loop-i.invariant (sym c.uses.ensures ∙ w.if-uses.true) (omega arith) w.one_more-more.ensures)
       | else-uses w ↦ marked_at _ _ _ _ _ w.payers-is w.left-is (marked_same _ _ _ _ c.loop-i.invariant (sym c.uses.ensures ∙ w.if-uses.false))
     ]
 

@@ -12,11 +12,11 @@ loop-i-init c = listed_none (λ i. (held c.args.line.now).uses i c.args.part.0) 
 pub bounds-keys-users : goal.bounds-keys-users
 bounds-keys-users c = omega (arith, listed_few _ _ c.loop-i.invariant)
 
-pub offset-bounds-keys-users : goal.offset-bounds-keys-users
-offset-bounds-keys-users c = let few = listed_few _ _ c.loop-i.invariant in search rules
+pub offset_bounds-keys-users : goal.offset_bounds-keys-users
+offset_bounds-keys-users c = let few = listed_few _ _ c.loop-i.invariant in search rules
 
-pub overflow-add-users : goal.overflow-add-users
-overflow-add-users c = omega (arith, listed_few _ _ c.loop-i.invariant)
+pub overflow_add-users : goal.overflow_add-users
+overflow_add-users c = omega (arith, listed_few _ _ c.loop-i.invariant)
 
 pub loop-i-preserved : goal.loop-i-preserved
 loop-i-preserved c =

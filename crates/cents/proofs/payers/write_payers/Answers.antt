@@ -15,32 +15,32 @@ front : (p : ℕ → Bool) (odd : ℕ → ℕ) {n : ℕ} {keys : List ℕ} {many
 unfolding most_farms
 front p odd l few long = listed_front p odd l (omega arith)
 
-pub read-counts-spread-requires : goal.read-counts-spread-requires
+pub read_counts-spread-requires : goal.read_counts-spread-requires
 unfolding most_farms
-read-counts-spread-requires c = record { counts = c.requires.counts; room = c.args.line.now.farms.1 }
+read_counts-spread-requires c = record { counts = c.requires.counts; room = c.args.line.now.farms.1 }
 
-pub nonzero-rem-more : goal.nonzero-rem-more
+pub nonzero_rem-more : goal.nonzero_rem-more
 unfolding users
-nonzero-rem-more c = omega (arith, c.args.line.now.used c.args.part.0 c.requires.part, c.read-counts-spread.ensures.all)
+nonzero_rem-more c = omega (arith, c.args.line.now.used c.args.part.0 c.requires.part, c.read_counts-spread.ensures.all)
 
-pub slice-bounds-keys-end : goal.slice-bounds-keys-end
+pub slice_bounds-keys-end : goal.slice_bounds-keys-end
 unfolding most_farms
-slice-bounds-keys-end c = omega (arith, listed_few _ _ c.read-counts-spread.ensures, c.args.line.now.farms.1, c.read-counts-spread.auto.keys)
+slice_bounds-keys-end c = omega (arith, listed_few _ _ c.read_counts-spread.ensures, c.args.line.now.farms.1, c.read_counts-spread.auto.keys)
 
-pub slice-bounds-level-of-end : goal.slice-bounds-level-of-end
+pub slice_bounds-level_of-end : goal.slice_bounds-level_of-end
 unfolding most_farms
-slice-bounds-level-of-end c = sym (front _ _ c.read-counts-spread.ensures c.args.line.now.farms.1 c.read-counts-spread.auto.keys).long
+slice_bounds-level_of-end c = sym (front _ _ c.read_counts-spread.ensures c.args.line.now.farms.1 c.read_counts-spread.auto.keys).long
 
-pub level-of-level-requires : goal.level-of-level-requires
+pub level_of-level-requires : goal.level_of-level-requires
 unfolding users most_farms
-level-of-level-requires c =
-    let keys = front _ _ c.read-counts-spread.ensures c.args.line.now.farms.1 c.read-counts-spread.auto.keys in
-    let some : 0 < c.read-counts-spread.result.users = omega (arith, c.args.line.now.used c.args.part.0 c.requires.part, c.read-counts-spread.ensures.all) in
-    record { some = omega (arith, keys.long, mod_below c.args.cost c.read-counts-spread.result.users some); least = keys.low; most = keys.high }
+level_of-level-requires c =
+    let keys = front _ _ c.read_counts-spread.ensures c.args.line.now.farms.1 c.read_counts-spread.auto.keys in
+    let some : 0 < c.read_counts-spread.result.users = omega (arith, c.args.line.now.used c.args.part.0 c.requires.part, c.read_counts-spread.ensures.all) in
+    record { some = omega (arith, keys.long, mod_below c.args.cost c.read_counts-spread.result.users some); least = keys.low; most = keys.high }
 
 pub returns : goal.returns
 returns c i =
     let line = c.args.line.now in
-    let level = c.level-of-level.result in
+    let level = c.level_of-level.result in
     chosen-pays (held line) c.args.part.0 c.args.cost (at c.args.odd.now) level.count level.left i
-    (λ k h. and_left (ltb k line.size.farms) _ (le-ltb k line.size.farms h)) c.read-counts-spread.ensures c.level-of-level.ensures.left c.level-of-level.ensures.next (c.mark.ensures i)
+    (λ k h. and_left (ltb k line.size.farms) _ (le-ltb k line.size.farms h)) c.read_counts-spread.ensures c.level_of-level.ensures.left c.level_of-level.ensures.next (c.mark.ensures i)

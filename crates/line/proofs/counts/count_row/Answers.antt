@@ -9,8 +9,8 @@ pub loop-word-init : goal.loop-word-init
 unfolding sum
 loop-word-init c = omega arith
 
-pub overflow-add-n : goal.overflow-add-n
-overflow-add-n c = omega (arith, ones-le 64 (get_or c.args.row.now c.loop-word.word-index 0) (search rules))
+pub overflow_add-n : goal.overflow_add-n
+overflow_add-n c = omega (arith, ones-le 64 (get_or c.args.row.now c.loop-word.word-index 0) (search rules))
 
 pub loop-word-preserved : goal.loop-word-preserved
 loop-word-preserved c =

@@ -8,9 +8,9 @@ use Rattle.line.proofs.read.is_faulty.Goals as goal
 pub returns-then-last-farms-gt1 : goal.returns-then-last-farms-gt1
 returns-then-last-farms-gt1 c =
     let yes = lt-ltb _ _ c.if-last-farms-gt1.true in
-    yes ∙ sym (ap (λ x. x || not (some c.args.farms (in_row 8 c.args.bytes.now))) (stray_top c.args.farms c.args.bytes.now c.requires.some c.requires.whole (c.type-inv.bytes _).fits ∙ yes))
+    yes ∙ sym (ap (λ x. x || not (some c.args.farms (in_row 8 c.args.bytes.now))) (stray_top c.args.farms c.args.bytes.now c.requires.some c.requires.whole (c.type_inv.bytes _).fits ∙ yes))
 
 pub returns-else-last-farms-gt1 : goal.returns-else-last-farms-gt1
 returns-else-last-farms-gt1 c =
-    blank_row c.args.farms c.args.bytes.now c.is-blank.result c.requires.whole (λ k. (c.type-inv.bytes k).fits)
-    (stray_top c.args.farms c.args.bytes.now c.requires.some c.requires.whole (c.type-inv.bytes _).fits ∙ le-ltb _ _ c.if-last-farms-gt1.false) c.is-blank.ensures
+    blank_row c.args.farms c.args.bytes.now c.is_blank.result c.requires.whole (λ k. (c.type_inv.bytes k).fits)
+    (stray_top c.args.farms c.args.bytes.now c.requires.some c.requires.whole (c.type_inv.bytes _).fits ∙ le-ltb _ _ c.if-last-farms-gt1.false) c.is_blank.ensures

@@ -7,9 +7,9 @@ use Rattle.line.specs.Reading.{sizing}
 use Rattle.line.proofs.Sizing.{within_yes, within_no, sizing_whole}
 use Rattle.line.proofs.read.sized.Goals as goal
 
-pub returns-in-default : goal.returns-in-default
+pub returns-in_default : goal.returns-in_default
 unfolding sizing
-returns-in-default c = simp (lt-ltb (length c.args.bytes.now) 4 (omega (arith, ltb-true)))
+returns-in_default c = simp (lt-ltb (length c.args.bytes.now) 4 (omega (arith, ltb-true)))
 
 pub returns-then-farms-eq0 : goal.returns-then-farms-eq0
 unfolding sizing most_farms
@@ -31,16 +31,16 @@ returns-then-parts-eq0 c =
 pub returns-then-bytes-end : goal.returns-then-bytes-end
 unfolding most_farms most_parts
 returns-then-bytes-end c =
-    let s : Size = record { farms = c.from-le-bytes-farms.result; parts = c.from-le-bytes-parts.result } in
-    let is = sizing_whole c.args.bytes.now s (omega (arith, ltb-false)) c.from-le-bytes-farms.ensures c.from-le-bytes-parts.ensures (omega arith, omega arith) (omega arith, omega arith) in
+    let s : Size = record { farms = c.from_le_bytes-farms.result; parts = c.from_le_bytes-parts.result } in
+    let is = sizing_whole c.args.bytes.now s (omega (arith, ltb-false)) c.from_le_bytes-farms.ensures c.from_le_bytes-parts.ensures (omega arith, omega arith) (omega arith, omega arith) in
     let short = lt-ltb (length c.args.bytes.now) (byte_length s.farms s.parts) (omega arith) in
     sym (is ∙ simp short)
 
 pub returns-then-bytes-end-2 : goal.returns-then-bytes-end-2
 unfolding most_farms most_parts
 returns-then-bytes-end-2 c =
-    let s : Size = record { farms = c.from-le-bytes-farms.result; parts = c.from-le-bytes-parts.result } in
-    let is = sizing_whole c.args.bytes.now s (omega (arith, ltb-false)) c.from-le-bytes-farms.ensures c.from-le-bytes-parts.ensures (omega arith, omega arith) (omega arith, omega arith) in
+    let s : Size = record { farms = c.from_le_bytes-farms.result; parts = c.from_le_bytes-parts.result } in
+    let is = sizing_whole c.args.bytes.now s (omega (arith, ltb-false)) c.from_le_bytes-farms.ensures c.from_le_bytes-parts.ensures (omega arith, omega arith) (omega arith, omega arith) in
     let enough = le-ltb (length c.args.bytes.now) (byte_length s.farms s.parts) (omega arith) in
     let more = lt-ltb (byte_length s.farms s.parts) (length c.args.bytes.now) (omega arith) in
     sym (is ∙ simp (enough, more, c.bytes-end.ensures))
@@ -48,8 +48,8 @@ returns-then-bytes-end-2 c =
 pub returns : goal.returns
 unfolding most_farms most_parts
 returns c =
-    let s : Size = record { farms = c.from-le-bytes-farms.result; parts = c.from-le-bytes-parts.result } in
-    let is = sizing_whole c.args.bytes.now s (omega (arith, ltb-false)) c.from-le-bytes-farms.ensures c.from-le-bytes-parts.ensures (omega arith, omega arith) (omega arith, omega arith) in
+    let s : Size = record { farms = c.from_le_bytes-farms.result; parts = c.from_le_bytes-parts.result } in
+    let is = sizing_whole c.args.bytes.now s (omega (arith, ltb-false)) c.from_le_bytes-farms.ensures c.from_le_bytes-parts.ensures (omega arith, omega arith) (omega arith, omega arith) in
     let enough = le-ltb (length c.args.bytes.now) (byte_length s.farms s.parts) (omega arith) in
     let no_more = le-ltb (byte_length s.farms s.parts) (length c.args.bytes.now) (omega arith) in
     sym (is ∙ simp (enough, no_more))

@@ -14,6 +14,6 @@ returns c i h =
     let b = c.args.bytes.now in
     let k = c.args.k in
     let first : get_or b (k + 0) 0 ≡ get_or b k 0 = ap (λ x. get_or b x 0) (omega arith) in
-    let whole : c.from-le-bytes.result ≡ sum 8 (λ j. get_or b (k + j) 0 * 2 ^ (8 * j)) = omega (arith, eight (λ j. get_or b (k + j) 0)) in
+    let whole : c.from_le_bytes.result ≡ sum 8 (λ j. get_or b (k + j) 0 * 2 ^ (8 * j)) = omega (arith, eight (λ j. get_or b (k + j) 0)) in
     ap (λ x. has x i) whole ∙ has_digits 8 8 (λ j. get_or b (k + j) 0) i (omega arith) (λ j. search rules) h
     ∙ ap₂ (λ x y. has (get_or b x 0) y) (let e : k + i / 8 ≡ (8 * k + i) / 8 = omega arith in e) (let e : i % 8 ≡ (8 * k + i) % 8 = omega arith in e)

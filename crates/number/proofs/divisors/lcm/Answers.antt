@@ -10,11 +10,11 @@ where_it_fits : (a b m : ℕ) (o : Option ℕ) → Least a b m → SomeIff o (m 
 where_it_fits a b m None h over = λ n k. omega (arith, (only_one a b).1 m n h k)
 where_it_fits a b m (Some x) h same = subst (Least a b) (sym same.1) h
 
-pub nonzero-div-a : goal.nonzero-div-a
-nonzero-div-a c = pos_of_dvd_of_pos c.gcd.ensures.left (omega arith)
+pub nonzero_div-a : goal.nonzero_div-a
+nonzero_div-a c = pos_of_dvd_of_pos c.gcd.ensures.left (omega arith)
 
 pub returns-then-a-eq0 : goal.returns-then-a-eq0
 returns-then-a-eq0 c = rw c.if-a-eq0.true (least_zero _)
 
 pub returns-else-a-eq0 : goal.returns-else-a-eq0
-returns-else-a-eq0 c = where_it_fits _ _ _ _ (least_from _ _ _ (omega arith) c.gcd.ensures) c.checked-mul.ensures
+returns-else-a-eq0 c = where_it_fits _ _ _ _ (least_from _ _ _ (omega arith) c.gcd.ensures) c.checked_mul.ensures

@@ -9,4 +9,4 @@ returns-then-costs-parts c = simp (lt-ltb (length c.args.costs.now) c.args.parts
 
 pub returns : goal.returns
 unfolding costs_refused
-returns c = simp (le-ltb (length c.args.costs.now) c.args.parts c.if-costs-parts.false) c.large-cost.ensures
+returns c = simp (le-ltb (length c.args.costs.now) c.args.parts c.if-costs-parts.false) c.large_cost.ensures

@@ -31,8 +31,8 @@ returns-in-Some c =
       answer = refl;
     }
 
-pub list-parts-requires : goal.list-parts-requires
-list-parts-requires c = record { room = c.if-rows-line.false; enough = c.if-costs-line.false }
+pub list_parts-requires : goal.list_parts-requires
+list_parts-requires c = record { room = c.if-rows-line.false; enough = c.if-costs-line.false }
 
 pub returns : goal.returns
 returns c =
@@ -41,13 +41,13 @@ returns c =
     let share = total_listed (held line) costs c.args.farm.0 line.size.parts then same_sym (once_rule_lem (held line) line.used costs c.args.farm.0) in
     record {
       refused =
-          c.in-default.ensures
+          c.in_default.ensures
           ∙ sym (parts_on (held line) c.args.costs.now c.args.farm.0 (length c.args.rows.now) c.if-costs-line.false c.if-rows-line.false c.if-farm-line.false);
       answer = record {
-        rows = c.list-parts.ensures.front;
-        count = c.list-parts.ensures.count;
+        rows = c.list_parts.ensures.front;
+        count = c.list_parts.ensures.count;
         share = share;
         fair = λ r f. share then fair_share (held line) line.used costs c.args.farm.0 c.if-farm-line.false r f;
-        rest = c.list-parts.ensures.rest;
+        rest = c.list_parts.ensures.rest;
       };
     }

@@ -10,11 +10,11 @@ use Rattle.share.proofs.shares.add_up.Goals.{then-uses, else-uses}
 pub loop-e-init : goal.loop-e-init
 loop-e-init c = ((λ k h. c.clear.ensures.zeros k h ∙ sym (due_none _ _ _ _)), refl)
 
-pub overflow-mul-each : goal.overflow-mul-each
-overflow-mul-each c = omega (arith, each_small c.args.scale c.users.result (at c.args.costs.now c.loop-e.e) c.requires.asked.below (c.requires.asked.small _ c.loop-e-test.true))
+pub overflow_mul-each : goal.overflow_mul-each
+overflow_mul-each c = omega (arith, each_small c.args.scale c.users.result (at c.args.costs.now c.loop-e.e) c.requires.asked.below (c.requires.asked.small _ c.loop-e-test.true))
 
-pub overflow-add-row : goal.overflow-add-row
-overflow-add-row c =
+pub overflow_add-row : goal.overflow_add-row
+overflow_add-row c =
     let line = c.args.line.now in
     let i = c.loop-i.i in
     omega (

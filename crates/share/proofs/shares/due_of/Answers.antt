@@ -9,11 +9,11 @@ use Rattle.share.proofs.shares.due_of.Goals.{then-uses, else-uses}
 pub loop-e-init : goal.loop-e-init
 loop-e-init c = sym (due_none _ _ _ _)
 
-pub overflow-mul-due : goal.overflow-mul-due
-overflow-mul-due c = omega (arith, each_small c.args.scale c.users.result (at c.args.costs.now c.loop-e.e) c.requires.asked.below (c.requires.asked.small _ c.loop-e-test.true))
+pub overflow_mul-due : goal.overflow_mul-due
+overflow_mul-due c = omega (arith, each_small c.args.scale c.users.result (at c.args.costs.now c.loop-e.e) c.requires.asked.below (c.requires.asked.small _ c.loop-e-test.true))
 
-pub overflow-add-due : goal.overflow-add-due
-overflow-add-due c =
+pub overflow_add-due : goal.overflow_add-due
+overflow_add-due c =
     let line = c.args.line.now in
     omega (
       arith,

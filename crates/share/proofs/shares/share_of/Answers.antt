@@ -42,17 +42,17 @@ returns-then-farm-line c = record { refused = sym (farm_unknown (held c.args.lin
 pub returns-in-Some : goal.returns-in-Some
 returns-in-Some c = record { refused = c.in-Some.ensures ∙ sym (farm_on (held c.args.line.now) c.args.costs.now c.args.farm.0 c.if-costs-line.false c.if-farm-line.false); answer = tt }
 
-pub scale-of-requires : goal.scale-of-requires
-scale-of-requires c = c.if-costs-line.false
+pub scale_of-requires : goal.scale_of-requires
+scale_of-requires c = c.if-costs-line.false
 
-pub returns-in-default-scale-of : goal.returns-in-default-scale-of
-returns-in-default-scale-of c =
-    record { refused = c.in-default.ensures ∙ sym (farm_on (held c.args.line.now) c.args.costs.now c.args.farm.0 c.if-costs-line.false c.if-farm-line.false); answer = c.in-default-scale-of.ensures }
+pub returns-in_default-scale_of : goal.returns-in_default-scale_of
+returns-in_default-scale_of c =
+    record { refused = c.in_default.ensures ∙ sym (farm_on (held c.args.line.now) c.args.costs.now c.args.farm.0 c.if-costs-line.false c.if-farm-line.false); answer = c.in_default-scale_of.ensures }
 
-pub due-of-requires : goal.due-of-requires
-due-of-requires c =
-    let small = costs_small c.args.line.now.size.parts c.args.costs.now (sym c.in-default.ensures) in
-    let scale = c.in-Some-scale-of.ensures in
+pub due_of-requires : goal.due_of-requires
+due_of-requires c =
+    let small = costs_small c.args.line.now.size.parts c.args.costs.now (sym c.in_default.ensures) in
+    let scale = c.in-Some-scale_of.ensures in
     record { asked = record { enough = c.if-costs-line.false; small = small; least = scale.0; below = scale.1 }; member = c.if-farm-line.false }
 
 pub returns : goal.returns
@@ -60,11 +60,11 @@ returns c =
     let line = c.args.line.now in
     let l = held line in
     let costs = c.args.costs.now in
-    let s = c.in-Some-scale-of.scale in
-    let small = costs_small line.size.parts costs (sym c.in-default.ensures) in
-    let scale = c.in-Some-scale-of.ensures in
+    let s = c.in-Some-scale_of.scale in
+    let small = costs_small line.size.parts costs (sym c.in_default.ensures) in
+    let scale = c.in-Some-scale_of.ensures in
     let asked : Asked l costs s = record { enough = c.if-costs-line.false; small = small; least = scale.0; below = scale.1 } in
     record {
-      refused = c.in-default.ensures ∙ sym (farm_on l costs c.args.farm.0 c.if-costs-line.false c.if-farm-line.false);
-      answer = given l costs c.args.farm.0 s _ asked line.used line.parts.1 c.if-farm-line.false c.due-of.ensures c.new.result (c.new.ensures.fits (least_positive l (at costs) s line.used scale.0));
+      refused = c.in_default.ensures ∙ sym (farm_on l costs c.args.farm.0 c.if-costs-line.false c.if-farm-line.false);
+      answer = given l costs c.args.farm.0 s _ asked line.used line.parts.1 c.if-farm-line.false c.due_of.ensures c.new.result (c.new.ensures.fits (least_positive l (at costs) s line.used scale.0));
     }

@@ -15,20 +15,20 @@ pub returns-in-Some : goal.returns-in-Some
 returns-in-Some c =
     record { refused = c.in-Some.ensures ∙ sym (shares_on (held c.args.line.now) c.args.costs.now (length c.args.row.now) c.if-row-line.false); answer = refl }
 
-pub scale-of-requires : goal.scale-of-requires
-scale-of-requires c = (costs_fine c.args.line.now.size.parts c.args.costs.now (sym c.in-default.ensures)).0
+pub scale_of-requires : goal.scale_of-requires
+scale_of-requires c = (costs_fine c.args.line.now.size.parts c.args.costs.now (sym c.in_default.ensures)).0
 
-pub returns-in-default-scale-of : goal.returns-in-default-scale-of
-returns-in-default-scale-of c =
+pub returns-in_default-scale_of : goal.returns-in_default-scale_of
+returns-in_default-scale_of c =
     record {
-      refused = c.in-default.ensures ∙ sym (shares_on (held c.args.line.now) c.args.costs.now (length c.args.row.now) c.if-row-line.false);
-      answer = (c.in-default-scale-of.ensures, refl);
+      refused = c.in_default.ensures ∙ sym (shares_on (held c.args.line.now) c.args.costs.now (length c.args.row.now) c.if-row-line.false);
+      answer = (c.in_default-scale_of.ensures, refl);
     }
 
-pub add-up-requires : goal.add-up-requires
-add-up-requires c =
-    let fine = costs_fine c.args.line.now.size.parts c.args.costs.now (sym c.in-default.ensures) in
-    let scale = c.in-Some-scale-of.ensures in
+pub add_up-requires : goal.add_up-requires
+add_up-requires c =
+    let fine = costs_fine c.args.line.now.size.parts c.args.costs.now (sym c.in_default.ensures) in
+    let scale = c.in-Some-scale_of.ensures in
     record { asked = record { enough = fine.0; small = fine.1; least = scale.0; below = scale.1 }; room = c.if-row-line.false }
 
 pub returns : goal.returns
@@ -36,19 +36,19 @@ returns c =
     let line = c.args.line.now in
     let l = held line in
     let costs = c.args.costs.now in
-    let s = c.in-Some-scale-of.scale in
-    let fine = costs_fine line.size.parts costs (sym c.in-default.ensures) in
-    let scale = c.in-Some-scale-of.ensures in
+    let s = c.in-Some-scale_of.scale in
+    let fine = costs_fine line.size.parts costs (sym c.in_default.ensures) in
+    let scale = c.in-Some-scale_of.ensures in
     let asked : Asked l costs s = record { enough = fine.0; small = fine.1; least = scale.0; below = scale.1 } in
-    let is = c.add-up.ensures.shares in
+    let is = c.add_up.ensures.shares in
     record {
-      refused = c.in-default.ensures ∙ sym (shares_on l costs (length c.args.row.now) c.if-row-line.false);
+      refused = c.in_default.ensures ∙ sym (shares_on l costs (length c.args.row.now) c.if-row-line.false);
       answer = (
         scale,
         record {
-          shares = shares_right l (at costs) s _ (at c.add-up.new.row) line.used (least_scale l (at costs) s line.used scale.0) is;
+          shares = shares_right l (at costs) s _ (at c.add_up.new.row) line.used (least_scale l (at costs) s line.used scale.0) is;
           small = λ i h. subst (λ x. x < 2 ^ 63) (sym (is i h)) (owed_small l s costs asked line.used line.parts.1 i line.size.parts h (omega arith));
-          rest = c.add-up.ensures.rest;
+          rest = c.add_up.ensures.rest;
         },
       );
     }

@@ -9,13 +9,13 @@ use Rattle.line.proofs.line.Line.users.Goals as goal
 pub returns-then-part-self : goal.returns-then-part-self
 returns-then-part-self c = sym (no_users 64 _ _ _ c.args.part.0 c.if-part-self.true)
 
-pub row-of-requires : goal.row-of-requires
-row-of-requires c = row_room _ _ c.row-words.result _ c.if-part-self.false (rw c.row-words.ensures c.args.self.now.room)
+pub row_of-requires : goal.row_of-requires
+row_of-requires c = row_room _ _ c.row_words.result _ c.if-part-self.false (rw c.row_words.ensures c.args.self.now.room)
 
-pub count-row-requires : goal.count-row-requires
+pub count_row-requires : goal.count_row-requires
 unfolding most_farms
-count-row-requires c =
-    omega (arith, c.args.self.now.farms, ap length c.row-of.ensures, row_most c.row-words.result c.args.self.now.words.now c.args.part.0)
+count_row-requires c =
+    omega (arith, c.args.self.now.farms, ap length c.row_of.ensures, row_most c.row_words.result c.args.self.now.words.now c.args.part.0)
 
 pub returns : goal.returns
 returns c =
@@ -24,7 +24,7 @@ returns c =
     let ws = c.args.self.now.words.now in
     let e = c.args.part.0 in
     let l = c.if-part-self.false in
-    c.count-row.ensures
-    ∙ ap (λ (r : List ℕ). count (64 * length r) (in_row 64 r)) (c.row-of.ensures ∙ ap (λ a. row a ws e) c.row-words.ensures)
+    c.count_row.ensures
+    ∙ ap (λ (r : List ℕ). count (64 * length r) (in_row 64 r)) (c.row_of.ensures ∙ ap (λ a. row a ws e) c.row_words.ensures)
     ∙ ap (λ k. count (64 * k) (in_row 64 (row (across 64 n) ws e))) (row_whole e m (across 64 n) ws l c.args.self.now.room)
     ∙ users_row 64 n m ws e (omega arith) l (c.args.self.now.clear e l)

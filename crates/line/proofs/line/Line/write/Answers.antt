@@ -45,18 +45,18 @@ returns c =
     let b = c.args.bytes.now in
     let ys = c.unpack.new.bytes in
     let ok = writing_ok (held self) b (omega arith) in
-    let base = after_head b (get_or c.to-le-bytes.result 0 0) (get_or c.to-le-bytes.result 1 0) (get_or c.to-le-bytes-2.result 0 0) (get_or c.to-le-bytes-2.result 1 0) in
+    let base = after_head b (get_or c.to_le_bytes.result 0 0) (get_or c.to_le_bytes.result 1 0) (get_or c.to_le_bytes-2.result 0 0) (get_or c.to_le_bytes-2.result 1 0) in
     let long : length ys ≡ length b - 4 = c.unpack.auto.bytes ∙ ap length base ∙ length-drop 4 b in
-    let fits = part_fits 4 _ 256 _ ys (simp length-set (omega arith)) (omega arith) (λ k. (c.type-inv.bytes k).fits) in
+    let fits = part_fits 4 _ 256 _ ys (simp length-set (omega arith)) (omega arith) (λ k. (c.type_inv.bytes k).fits) in
     let rows-over =
     over_rows 8 64 n m ys self.words.now (drop 4 b) (omega arith) (omega arith) fits (omega arith) self.clear c.unpack.ensures.same
     (c.unpack.ensures.rest ∙ ap (drop (m * across 8 n)) base) in
     record {
       answer = sym (ok.0 ∙ ap {B = Result ℕ Refusal} (λ k. Ok k) (sym c.bytes-end.ensures));
       after =
-          head_over (held self) b ys _ _ _ _ _ (omega arith) (simp length-set (omega arith)) (ap (λ (x : List ℕ). get_or x 0 0) c.to-le-bytes.ensures)
-          (high _ n c.to-le-bytes.ensures (omega (arith, self.farms))) (ap (λ (x : List ℕ). get_or x 0 0) c.to-le-bytes-2.ensures)
-          (high _ m c.to-le-bytes-2.ensures (omega (arith, self.parts))) rows-over
+          head_over (held self) b ys _ _ _ _ _ (omega arith) (simp length-set (omega arith)) (ap (λ (x : List ℕ). get_or x 0 0) c.to_le_bytes.ensures)
+          (high _ n c.to_le_bytes.ensures (omega (arith, self.farms))) (ap (λ (x : List ℕ). get_or x 0 0) c.to_le_bytes-2.ensures)
+          (high _ m c.to_le_bytes-2.ensures (omega (arith, self.parts))) rows-over
           ∙ sym ok.1;
       again = again self.size self.words.now (sound self);
     }

@@ -11,8 +11,8 @@ use Rattle.number.proofs.fraction.Fraction.add.Goals as goal
 products_fit : (a b p q : ℕ) → a < 2 ^ 63 → b < 2 ^ 63 → p < 2 ^ 63 → q < 2 ^ 63 → Fits w128 (a * b + p * q)
 products_fit a b p q h k l m = Fits-of_lt (omega (arith, mul-lt a b _ _ h k, mul-lt p q _ _ l m))
 
-pub overflow-add-top : goal.overflow-add-top
-overflow-add-top c = products_fit _ _ _ _ (omega arith) (omega arith) (omega arith) (omega arith)
+pub overflow_add-top : goal.overflow_add-top
+overflow_add-top c = products_fit _ _ _ _ (omega arith) (omega arith) (omega arith) (omega arith)
 
 pub reduced-requires : goal.reduced-requires
 reduced-requires c = mul-pos c.args.self.positive c.args.other.positive
