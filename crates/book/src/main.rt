@@ -1,9 +1,12 @@
 // Reads a line, and prints its accounts or why it is refused.
+#![tactic(auto)]
+
 mod accounts;
 mod trouble;
 
 use accounts::accounts;
 use std::io::Write;
+use std::process::ExitCode;
 use std::{env, fs};
 use trouble::Trouble;
 
@@ -61,17 +64,14 @@ fn run(rt: &HostRuntime) -> Result<bool, Trouble> {
     }
 }
 
-// The program ends with status 1.
-#[derive(Drop)]
-struct Failed;
-
-fn main(rt: HostRuntime) -> Result<(), Failed> {
+// Tells what is wrong with the call or the machine on standard error; the status is 0 only if the line was taken.
+fn main(rt: HostRuntime) -> ExitCode {
     match run(&rt) {
-        Ok(true) => Ok(()),
-        Ok(false) => Err(Failed),
+        Ok(true) => ExitCode::SUCCESS,
+        Ok(false) => ExitCode::FAILURE,
         Err(trouble) => {
             let _ = rt.eprintln(trouble);
-            Err(Failed)
+            ExitCode::FAILURE
         }
     }
 }

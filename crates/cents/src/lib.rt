@@ -1,4 +1,6 @@
 // A year's costs, split in whole cents.
+#![tactic(auto)]
+
 pub mod costs;
 mod halving;
 mod payers;

@@ -1,4 +1,6 @@
 // Splits the costs of many years on a line, one after the other, and prints what came of it: bench/closings measures it.
+#![tactic(auto)]
+
 use anyhow::anyhow;
 use cents::costs::split_costs;
 use line::limits::{MOST_FARMS, MOST_PARTS};

@@ -1,4 +1,6 @@
 // Lines of farms and parts: who uses which part, read from bytes or refused.
+#![tactic(auto)]
+
 pub mod counts;
 pub mod limits;
 pub mod line;

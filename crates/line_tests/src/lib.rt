@@ -1,4 +1,5 @@
 // Lines of several sizes, read, looked at and written again.
+#![tactic(auto)]
 
 #[cfg(test)]
 mod tests {

@@ -1,5 +1,5 @@
 -- The order of the code's fractions, and the proofs of its laws that its traits ask for.
-use Rattle.std.specs.Prelude.{◌≡◌, ℕ, zero, suc, ◌+◌, ◌*◌, ◌/◌, ◌%◌, ◌<◌, Bool, true, false, ◌&&◌, ◌==◌}
+use Rattle.std.specs.Prelude.{◌≡◌, ℕ, zero, suc, ◌+◌, ◌*◌, ◌/◌, ◌%◌, ◌<◌, Bool, ◌&&◌, ◌==◌}
 use Rattle.std.specs.Int.{◌∣◌}
 use Rattle.std.specs.Cmp.{IsTotalOrder, ranks, nat_cmp_total}
 use Rattle.std.specs.Ordering.{MatchOrdering, is_eq, nat_cmp}

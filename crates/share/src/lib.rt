@@ -1,4 +1,6 @@
 // Exact shares of a year's costs.
+#![tactic(auto)]
+
 pub mod costs;
 pub mod form;
 pub mod parts;

@@ -1,4 +1,5 @@
 // Years whose shares are worked out by hand.
+#![tactic(auto)]
 
 #[cfg(test)]
 mod tests {

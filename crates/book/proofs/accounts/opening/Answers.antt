@@ -10,6 +10,6 @@ loop-i-init c = c.new-text.ensures.bytes
 pub loop-i-preserved : goal.loop-i-preserved
 unfolding farms_text
 loop-i-preserved c =
-    pushed _ c.loop-i.invariant c.in-ok-push-str.was c.push-str.ensures.bytes
-    ∙ ap (λ (x : List ℕ). farms_text c.loop-i.i-counter ++ x) (c.as-str.ensures.value ∙ c.in-ok-told.ensures.ok)
+    pushed _ c.loop-i.invariant c.in_ok-push_str.was c.push_str.ensures.bytes
+    ∙ ap (λ (x : List ℕ). farms_text c.loop-i.i-counter ++ x) (c.as_str.ensures.value ∙ c.in_ok-told.ensures.ok)
     ∙ sym (ap farms_text (add-one c.loop-i.i-counter))
