@@ -1,6 +1,6 @@
 -- What is promised of the split in cents. Each is a statement; the function in src/ that names it owes its proof.
 use Rattle.std.specs.Prelude.{◌≡◌, ℕ, ◌+◌, ◌-◌, ◌*◌, ◌<◌, ◌≤◌, Bool, true, false, ◌&&◌, List, nat_lt}
-use Rattle.std.specs.List.{AllByRecursion as All}
+use Rattle.std.specs.List.{AllByRecursion}
 use Rattle.number.specs.Sum.{sum, count}
 use Rattle.line.specs.Line.{Line}
 use Rattle.share.specs.Cost.{Costs, only}
@@ -87,13 +87,13 @@ ClosingAddsUp =
 -- two farms that count the same for every part of a row of splits, and began at most one odd cent apart, never differ by more than one
 abbrev pub OddLevel : Type 0
 OddLevel =
-    (row : List SplitOf) (odd : ℕ → ℕ) (i j : ℕ) → All (Both i j) row → All (Alike i j) row →
+    (row : List SplitOf) (odd : ℕ → ℕ) (i j : ℕ) → AllByRecursion (Both i j) row → AllByRecursion (Alike i j) row →
     Differ 1 (odd i) (odd j) → Differ 1 (odd_row odd row i) (odd_row odd row j)
 
 -- any two farms differ by no more than before, or one, and the odd cents of parts for which they do not count the same
 abbrev pub OddGap : Type 0
 OddGap =
-    (row : List SplitOf) (odd : ℕ → ℕ) (i j d : ℕ) → All (Both i j) row → 0 < d →
+    (row : List SplitOf) (odd : ℕ → ℕ) (i j d : ℕ) → AllByRecursion (Both i j) row → 0 < d →
     Differ d (odd i) (odd j) → Differ (d + own i j odd row) (odd_row odd row i) (odd_row odd row j)
 
 -- and so in a year: after its first k parts, or all, two farms that count the same for each of them differ by at most one odd cent if they did before
