@@ -66,7 +66,7 @@ fn run(rt: &HostRuntime) -> anyhow::Result<()> {
     let mut args = env::args(rt)?;
     let _ = args.next();
     let (Some(name), Some(count), None) = (args.next(), args.next(), args.next()) else {
-        return Err(anyhow!("usage: closings LINE YEARS"));
+        return Err(anyhow!("{:?}", "usage: closings LINE YEARS"));
     };
     let count = count.as_str().parse::<u64>()?;
     let bytes = fs::read(rt, name.as_str())?;
@@ -87,7 +87,7 @@ fn run(rt: &HostRuntime) -> anyhow::Result<()> {
         sums.as_mut_slice(),
     );
     if done.is_err() {
-        return Err(anyhow!("closings: the line or a year is refused"));
+        return Err(anyhow!("{:?}", "closings: the line or a year is refused"));
     }
     println!(rt; "odd cents {}", total(odd.as_slice()))?;
     println!(rt; "cents of the last year {}", total(sums.as_slice()))?;
