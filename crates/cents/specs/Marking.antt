@@ -1,5 +1,5 @@
 -- The users with the lowest ranks, found by a level of odd cents.
-use Rattle.std.specs.Prelude.{◌≡◌, ℕ, ◌<◌, ◌≤◌, Bool, ◌&&◌, ◌||◌, ltb, List, length, take, ◌==◌, nat_lt}
+use Rattle.std.specs.Prelude.{◌≡◌, ℕ, ◌<◌, ◌≤◌, Bool, ◌&&◌, ◌||◌, List, length, take, ◌==◌, nat_lt}
 use Rattle.number.specs.Sum.{count}
 use Rattle.share.specs.Answer.{at}
 
@@ -17,7 +17,7 @@ chosen p odd t left i = p i && (nat_lt (odd i) t || (odd i == t && nat_lt (at_le
 
 -- how many of the counts that are listed are below t
 unfoldable pub fewer : List ℕ → ℕ → ℕ
-fewer keys t = count (length keys) (λ j. ltb (at keys j) t)
+fewer keys t = count (length keys) (λ j. nat_lt (at keys j) t)
 
 -- the counts of those of the first n that pass p stand at the front of the keys, in any order: as many are below any t as have paid fewer; none is below the least or above the most
 pub record Listed (p : ℕ → Bool) (odd : ℕ → ℕ) (n : ℕ) (keys : List ℕ) (many least most : ℕ) : Type 0 where

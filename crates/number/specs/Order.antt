@@ -1,4 +1,4 @@
--- The order of the code's fractions, and the proofs of its laws that its traits ask for.
+-- The order of the code's fractions. The traits of an order ask for proofs of its laws, and those have to stand here, after the definitions.
 use Rattle.std.specs.Prelude.{◌≡◌, ℕ, zero, suc, ◌+◌, ◌*◌, ◌/◌, ◌%◌, ◌<◌, Bool, ◌&&◌, ◌==◌}
 use Rattle.std.specs.Int.{◌∣◌}
 use Rattle.std.specs.Cmp.{IsTotalOrder, ranks, nat_cmp_total}
@@ -10,11 +10,16 @@ use Rattle.std.proofs.Math.Nat.{dvd_refl, dvd-mul_left, dvd-mul_right, dvd-add_i
 use Rattle.std.proofs.lemmas.Bool.{cases_lt}
 use Rattle.std.proofs.lemmas.Bool.Decides.{nat_tests}
 use Rattle.number.specs.LowestTerms.{Lowest}
+use Rattle.number.specs.Reduced.{value, Ordered}
 use Rattle.number.specs.declared.fraction.Fraction.{Fraction as Reduced}
 
 -- how the products crosswise stand: the top of each times the bottom of the other
 abbrev pub crosswise : Reduced → Reduced → Ordering
 crosswise x y = nat_cmp (x.top * y.bottom) (y.top * x.bottom)
+
+-- it is the order of the values
+abbrev pub OrderOfValues : Type 0
+OrderOfValues = (x y : Reduced) → Ordered (value x) (value y) (crosswise x y)
 
 -- whether both numbers are the same
 abbrev pub alike : Reduced → Reduced → Bool
@@ -51,13 +56,15 @@ scaled k m n some = answer (m * k) (n * k) (nat_cmp m n) (at (nat_cmp m n) (rank
     at Equal h = ap (λ x. x * k) h
     at Greater h = mul-lt-mul_of_pos_right h some
 
--- products that are equal crosswise compare alike with a third
+-- two factors may change places
 swapped : (k m n : ℕ) → k * m * n ≡ k * n * m
 swapped k m n = omega arith
 
+-- numbers that compare as equal are equal
 equal : (m n : ℕ) → nat_cmp m n ≡ Equal → m ≡ n
 equal m n e = subst (λ r. MatchOrdering r (m < n) (m ≡ n) (n < m)) e (ranks m n)
 
+-- it is a total order
 pub crosswise_total : IsTotalOrder crosswise
 crosswise_total = record {
   antisymm = λ x y. nat_cmp_total.antisymm (x.top * y.bottom) (y.top * x.bottom);
@@ -73,12 +80,13 @@ crosswise_total = record {
       ∙ scaled x.bottom (y.top * z.bottom) (z.top * y.bottom) x.positive;
 }
 
--- lowest terms are unique
+-- two fractions in lowest terms with equal products crosswise have the same bottom
 same_bottom : (a b p q : ℕ) → 0 < b → 0 < q → Lowest a b → Lowest p q → a * q ≡ p * b → b ≡ q
 same_bottom a b p q h k l m e =
     dvd_antisymm (divides_other (suc b) a b q (omega arith) h l (subst (λ x. b ∣ x) (sym e) (dvd-mul_left b p)))
     (divides_other (suc q) p q b (omega arith) k m (subst (λ x. q ∣ x) e (dvd-mul_left q a)))
 
+-- fractions that it does not tell apart have the same numbers, and only those
 pub crosswise_ties : (x y : Reduced) → alike x y ≡ is_eq (crosswise x y)
 crosswise_ties x y = at (crosswise x y) (ranks (x.top * y.bottom) (y.top * x.bottom))
   where

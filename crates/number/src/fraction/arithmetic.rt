@@ -74,7 +74,7 @@ impl Fraction {
 // Every fraction has lowest terms, only one, and no other fraction with its value has smaller numbers;
 // fractions of the same value are the same, so that at most one answer fits a value.
 pub fn lowest_terms_stand() -> u8
-    ensures { (LowestExists) × ((LowestUnique) × ((LowestLeast) × ((SameFraction) × (FittingUnique)))) }
+    ensures { LowestExists × LowestUnique × LowestLeast × SameFraction × FittingUnique }
 {
     0
 }

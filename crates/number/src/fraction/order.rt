@@ -3,7 +3,7 @@ ghost use Rattle.std.specs.Prelude.{◌≡◌, IsSomeAnd, refl};
 ghost use Rattle.std.specs.Cmp.{partial_order_from_agreeing_total};
 ghost use Rattle.std.specs.Ordering.{as_partial_cmp};
 ghost use Rattle.number.specs.Reduced.{value, Ordered};
-ghost use Rattle.number.specs.Order.{crosswise, crosswise_total, crosswise_ties};
+ghost use Rattle.number.specs.Order.{crosswise, crosswise_total, crosswise_ties, OrderOfValues};
 
 use crate::fraction::Fraction;
 use std::cmp::Ordering;
@@ -40,4 +40,11 @@ impl PartialOrd for Fraction {
     {
         Some(self.cmp(other))
     }
+}
+
+// The order that is computed, and that `<`, `max` and their like go by, is the order of the values.
+pub fn order_stands() -> u8
+    ensures { OrderOfValues }
+{
+    0
 }

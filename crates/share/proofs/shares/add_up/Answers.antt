@@ -1,5 +1,8 @@
-use Rattle.std.proofs.Common.{◌≡◌, ℕ, ◌+◌, List, drop, sym, refl, ◌∙◌, subst, arith}
+use Rattle.std.proofs.Common.{◌≡◌, ℕ, ◌+◌, ◌*◌, ◌/◌, ◌^◌, ◌<◌, List, drop, sym, refl, ◌∙◌, subst, arith}
+use mir.Facts.{Fits-of_lt}
 use Rattle.std.proofs.lemmas.List.{drop-set-lt}
+use Rattle.line.specs.Limits.{costs_end}
+use Rattle.share.specs.Limits.{scale_end}
 use Rattle.line.specs.Held.{held}
 use Rattle.share.specs.Answer.{at}
 use Rattle.share.proofs.Dues.{owed_small, each_small, owed_used, owed_unused, Halfway, halfway_more, halfway_set}
@@ -10,8 +13,12 @@ use Rattle.share.proofs.shares.add_up.Goals.{then-uses, else-uses}
 pub loop-e-init : goal.loop-e-init
 loop-e-init c = ((λ k h. c.clear.ensures.zeros k h ∙ sym (due_none _ _ _ _)), refl)
 
+-- what a user pays of a part fits a word, whatever the scale is divided by
+word_small : (scale u x : ℕ) → scale < scale_end → x < costs_end → scale / u * x < 2 ^ 64
+word_small scale u x s c = omega (arith, each_small scale u x s c)
+
 pub overflow_mul-each : goal.overflow_mul-each
-overflow_mul-each c = omega (arith, each_small c.args.scale c.users.result (at c.args.costs.now c.loop-e.e) c.requires.asked.below (c.requires.asked.small _ c.loop-e-test.true))
+overflow_mul-each c = Fits-of_lt (word_small c.args.scale _ (at c.args.costs.now c.loop-e.e) c.requires.asked.below (c.requires.asked.small _ c.loop-e-test.true))
 
 pub overflow_add-row : goal.overflow_add-row
 overflow_add-row c =
