@@ -2,9 +2,10 @@
 use Rattle.std.proofs.Common.{◌≡◌, ℕ, ◌+◌, ◌*◌, ◌/◌, ◌%◌, ◌<◌, List, [], ◌∷◌, ◌++◌, length, get_or, Some, sym, refl, ap, ◌∙◌, subst, ap₂, arith}
 use Rattle.std.proofs.lemmas.List.FromFn.{fill_by_all}
 use Rattle.std.proofs.lemmas.Bool.Decides.{nat_tests}
+use Rattle.account.specs.Bytes.{four_at, four}
 use Rattle.account.specs.declared.booking.Booking.{Booking}
 use Rattle.account.specs.declared.booking.Booking.TheVariants.{Cost, Payment, Closing}
-use Rattle.number.specs.Bytes.{two, four, two_at, four-at}
+use Rattle.line.specs.Bytes.{two, two_at}
 use Rattle.account.specs.Booking.{bytes_of, booking, meant, Right}
 
 -- two bytes, and four, are those of the number in them
@@ -21,7 +22,7 @@ four_back x y z t h g f =
 two_whole : (n : ℕ) → two_at (two n) 0 ≡ n
 two_whole n = omega arith
 
-four_whole : (n : ℕ) → four-at (four n) 0 ≡ n
+four_whole : (n : ℕ) → four_at (four n) 0 ≡ n
 four_whole n = omega arith
 
 -- the bytes of a booking mean it
@@ -38,7 +39,7 @@ spelled k w c (Payment f q) h = grind (arith, nat_tests)
 spelled k w c Closing h = grind (arith, nat_tests)
 
 -- seven bytes are those of the numbers in them
-back : (b : List ℕ) → ((k : ℕ) → get_or b k 0 < 256) → length b ≡ 7 → b ≡ get_or b 0 0 ∷ (two (two_at b 1) ++ four (four-at b 3))
+back : (b : List ℕ) → ((k : ℕ) → get_or b k 0 < 256) → length b ≡ 7 → b ≡ get_or b 0 0 ∷ (two (two_at b 1) ++ four (four_at b 3))
 back b fits long =
     fill_by_all (λ k. get_or b k 0) b 7 0 long (λ k l. refl)
     ∙ sym (ap₂ (λ p q. get_or b 0 0 ∷ (p ++ q)) (two_back (get_or b 1 0) (get_or b 2 0) (fits 1)) (four_back (get_or b 3 0) (get_or b 4 0) (get_or b 5 0) (get_or b 6 0) (fits 3) (fits 4) (fits 5)))
@@ -47,6 +48,6 @@ pub right : (b : List ℕ) → ((k : ℕ) → get_or b k 0 < 256) → Right b
 unfolding meant
 right b fits =
     record {
-      sound = λ long x h. back b fits long ∙ spelled (get_or b 0 0) (two_at b 1) (four-at b 3) x h;
+      sound = λ long x h. back b fits long ∙ spelled (get_or b 0 0) (two_at b 1) (four_at b 3) x h;
       whole = λ x e. subst (λ a. meant a ≡ Some x) (sym e) (whole x);
     }

@@ -1,9 +1,10 @@
 -- A booking as seven bytes: its kind, a part or farm in two bytes, and cents in four, low byte first, with zeros where there is nothing to say.
 use Rattle.std.specs.Prelude.{◌≡◌, ℕ, cond, ◌&&◌, List, ◌∷◌, ◌++◌, length, Some, None, Err, Option, Result, ◌==◌, slice_index}
 use Rattle.std.specs.Option.{ok_or}
-use Rattle.number.specs.Bytes.{two_at, four-at, two, four}
+use Rattle.line.specs.Bytes.{two_at, two}
 use Rattle.line.specs.declared.refusal.Refusal.{Refusal}
 use Rattle.line.specs.declared.refusal.Refusal.TheVariants.{Length, Kind}
+use Rattle.account.specs.Bytes.{four_at, four}
 use Rattle.account.specs.declared.booking.Booking.{Booking}
 use Rattle.account.specs.declared.booking.Booking.TheVariants.{Cost, Payment, Closing}
 
@@ -26,7 +27,7 @@ booking k w c =
 
 -- the booking that seven bytes mean, if they mean one
 unfoldable pub meant : List ℕ → Option Booking
-meant b = booking (slice_index b 0) (two_at b 1) (four-at b 3)
+meant b = booking (slice_index b 0) (two_at b 1) (four_at b 3)
 
 -- the answer to the bytes at place k of a row: other than seven bytes are refused at their number, and bytes that mean no booking at k
 unfoldable pub reading : ℕ → List ℕ → Result Booking Refusal

@@ -1,7 +1,7 @@
 // What can be booked, and how a booking is answered.
-use number::cents::Cents;
-use line::refusal::Refusal;
 use line::names::{Farm, Part};
+use line::refusal::Refusal;
+use number::cents::Cents;
 
 // A booking. specs/Booking gives each kind its number.
 #[derive(Clone, Copy, PartialEq, Eq, Debug)]

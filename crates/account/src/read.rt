@@ -3,9 +3,9 @@ ghost use Rattle.std.specs.Prelude.{◌≡◌};
 ghost use Rattle.account.specs.Booking.{reading, booking, Right};
 
 use crate::booking::Booking;
-use number::cents::Cents;
-use line::refusal::Refusal;
 use line::names::{Farm, Part};
+use line::refusal::Refusal;
+use number::cents::Cents;
 
 // How many bytes a booking takes.
 pub const BOOKING_BYTES: usize = 7;

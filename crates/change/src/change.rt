@@ -5,8 +5,8 @@ ghost use Rattle.change.specs.Answer.{WithBit, Joined, Parted};
 ghost use Rattle.change.specs.Change.{only_user};
 
 use line::line::Line;
-use line::refusal::Refusal;
 use line::names::{Farm, Part};
+use line::refusal::Refusal;
 
 // Sets the farm's bit in a part's row.
 fn set_user(row: &mut [u64], farm: Farm)

@@ -14,18 +14,18 @@ returns-then-part-line c = refused_join _ _ c.args.line.now _ (no_part _ c.args.
 pub returns-then-farm-line : goal.returns-then-farm-line
 returns-then-farm-line c = refused_join _ _ c.args.line.now _ (no_farm _ c.args.farm.0 c.args.part.0 _ c.if-part-line.false c.if-farm-line.true)
 
-pub slice-bounds-set-user-end : goal.slice-bounds-set-user-end
-slice-bounds-set-user-end c = row_room c.args.part.0 c.args.line.now.size.parts _ _ c.if-part-line.false (rw c.row-words-width.ensures c.args.line.now.room)
+pub slice_bounds-set_user-end : goal.slice_bounds-set_user-end
+slice_bounds-set_user-end c = row_room c.args.part.0 c.args.line.now.size.parts _ _ c.if-part-line.false (rw c.row_words-width.ensures c.args.line.now.room)
 
-pub invariant-of-line : goal.invariant-of-line
-invariant-of-line c =
+pub invariant_of-line : goal.invariant_of-line
+invariant_of-line c =
     let line = c.args.line.now in
     let l = held line in
     let i = c.args.farm.0 in
     let e = c.args.part.0 in
-    let mark = put_mark line.size.farms line.size.parts i e true line.words.now _ c.if-farm-line.false c.if-part-line.false line.room line.clear _ c.row-words-width.ensures c.set-user.auto.row c.set-user.ensures in
+    let mark = put_mark line.size.farms line.size.parts i e true line.words.now _ c.if-farm-line.false c.if-part-line.false line.room line.clear _ c.row_words-width.ensures c.set_user.auto.row c.set_user.ensures in
     let used = still_used i l (joined l i e) (joined_grows_lem l i e) line.used in
-    (line.farms, (line.parts, (mark.room, (mark.clear, (used_after _ _ (joined l i e) _ (mark.line ∙ joined_is l i e) refl used, tt)))))
+    record { farms = line.farms; parts = line.parts; room = mark.room; clear = mark.clear; used = used_after _ _ (joined l i e) _ (mark.line ∙ joined_is l i e) refl used }
 
 pub returns : goal.returns
 returns c =
@@ -33,7 +33,7 @@ returns c =
     let l = held line in
     let i = c.args.farm.0 in
     let e = c.args.part.0 in
-    let mark = put_mark line.size.farms line.size.parts i e true line.words.now _ c.if-farm-line.false c.if-part-line.false line.room line.clear _ c.row-words-width.ensures c.set-user.auto.row c.set-user.ensures in
+    let mark = put_mark line.size.farms line.size.parts i e true line.words.now _ c.if-farm-line.false c.if-part-line.false line.room line.clear _ c.row_words-width.ensures c.set_user.auto.row c.set_user.ensures in
     let is = mark.line ∙ joined_is l i e in
     record {
       refused = known l i e None c.if-part-line.false c.if-farm-line.false;

@@ -14,22 +14,22 @@ returns-then-part-line c = refused_leave _ _ c.args.line.now _ (no_part _ c.args
 pub returns-then-farm-line : goal.returns-then-farm-line
 returns-then-farm-line c = refused_leave _ _ c.args.line.now _ (no_farm _ c.args.farm.0 c.args.part.0 _ c.if-part-line.false c.if-farm-line.true)
 
-pub returns-then-is-only-user : goal.returns-then-is-only-user
-returns-then-is-only-user c =
-    refused_leave _ _ c.args.line.now _ (leave_answer _ c.args.farm.0 c.args.part.0 true c.if-is-only-user.ensures c.if-part-line.false c.if-farm-line.false)
+pub returns-then-is_only_user : goal.returns-then-is_only_user
+returns-then-is_only_user c =
+    refused_leave _ _ c.args.line.now _ (leave_answer _ c.args.farm.0 c.args.part.0 true c.if-is_only_user.ensures c.if-part-line.false c.if-farm-line.false)
 
-pub slice-bounds-clear-user-end : goal.slice-bounds-clear-user-end
-slice-bounds-clear-user-end c = row_room c.args.part.0 c.args.line.now.size.parts _ _ c.if-part-line.false (rw c.row-words-width.ensures c.args.line.now.room)
+pub slice_bounds-clear_user-end : goal.slice_bounds-clear_user-end
+slice_bounds-clear_user-end c = row_room c.args.part.0 c.args.line.now.size.parts _ _ c.if-part-line.false (rw c.row_words-width.ensures c.args.line.now.room)
 
-pub invariant-of-line : goal.invariant-of-line
-invariant-of-line c =
+pub invariant_of-line : goal.invariant_of-line
+invariant_of-line c =
     let line = c.args.line.now in
     let l = held line in
     let i = c.args.farm.0 in
     let e = c.args.part.0 in
-    let mark = put_mark line.size.farms line.size.parts i e false line.words.now _ c.if-farm-line.false c.if-part-line.false line.room line.clear _ c.row-words-width.ensures c.clear-user.auto.row c.clear-user.ensures in
-    let used = parted_used l i e c.if-farm-line.false c.if-is-only-user.ensures line.used in
-    (line.farms, (line.parts, (mark.room, (mark.clear, (used_after _ _ (parted l i e) _ (mark.line ∙ parted_is l i e) refl used, tt)))))
+    let mark = put_mark line.size.farms line.size.parts i e false line.words.now _ c.if-farm-line.false c.if-part-line.false line.room line.clear _ c.row_words-width.ensures c.clear_user.auto.row c.clear_user.ensures in
+    let used = parted_used l i e c.if-farm-line.false c.if-is_only_user.ensures line.used in
+    record { farms = line.farms; parts = line.parts; room = mark.room; clear = mark.clear; used = used_after _ _ (parted l i e) _ (mark.line ∙ parted_is l i e) refl used }
 
 pub returns : goal.returns
 returns c =
@@ -37,11 +37,11 @@ returns c =
     let l = held line in
     let i = c.args.farm.0 in
     let e = c.args.part.0 in
-    let mark = put_mark line.size.farms line.size.parts i e false line.words.now _ c.if-farm-line.false c.if-part-line.false line.room line.clear _ c.row-words-width.ensures c.clear-user.auto.row c.clear-user.ensures in
+    let mark = put_mark line.size.farms line.size.parts i e false line.words.now _ c.if-farm-line.false c.if-part-line.false line.room line.clear _ c.row_words-width.ensures c.clear_user.auto.row c.clear_user.ensures in
     let is = mark.line ∙ parted_is l i e in
     record {
-      refused = leave_answer l i e false c.if-is-only-user.ensures c.if-part-line.false c.if-farm-line.false;
+      refused = leave_answer l i e false c.if-is_only_user.ensures c.if-part-line.false c.if-farm-line.false;
       holds = is;
       kept = record { size = refl; rest = mark.rest; lender = refl };
-      others = subst (NoneLowered i l) (sym is) (leaving_lowers_none_lem i l (parted l i e) (parted_grows_lem l i e) (parted_used l i e c.if-farm-line.false c.if-is-only-user.ensures line.used));
+      others = subst (NoneLowered i l) (sym is) (leaving_lowers_none_lem i l (parted l i e) (parted_grows_lem l i e) (parted_used l i e c.if-farm-line.false c.if-is_only_user.ensures line.used));
     }

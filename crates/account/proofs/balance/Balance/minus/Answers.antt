@@ -4,25 +4,25 @@ use Rattle.account.specs.Limits.{account_most}
 use Rattle.account.proofs.Ranges.{range_ends, range_inside, range_below}
 use Rattle.account.proofs.balance.Balance.minus.Goals as goal
 
-pub overflow-add-self : goal.overflow-add-self
+pub overflow_add-self : goal.overflow_add-self
 unfolding account_most
-overflow-add-self c = omega (arith, ints, range_ends _ c.args.self.range)
+overflow_add-self c = omega (arith, ints, range_ends _ c.args.self.range)
 
 pub returns-then-taken-room : goal.returns-then-taken-room
 unfolding account_most
 returns-then-taken-room c = range_below _ (omega (arith, ints, range_ends _ c.args.self.range))
 
-pub overflow-cast-result : goal.overflow-cast-result
+pub overflow_cast-result : goal.overflow_cast-result
 unfolding account_most
-overflow-cast-result c = omega (arith, ints, range_ends _ c.args.self.range)
+overflow_cast-result c = omega (arith, ints, range_ends _ c.args.self.range)
 
-pub overflow-sub-result : goal.overflow-sub-result
+pub overflow_sub-result : goal.overflow_sub-result
 unfolding account_most
-overflow-sub-result c = omega (arith, ints, range_ends _ c.args.self.range)
+overflow_sub-result c = omega (arith, ints, range_ends _ c.args.self.range)
 
-pub invariant-of-result : goal.invariant-of-result
+pub invariant_of-result : goal.invariant_of-result
 unfolding account_most
-invariant-of-result c = let ends = range_ends _ c.args.self.range in (range_inside _ (omega (arith, ints)) (omega (arith, ints)), tt)
+invariant_of-result c = let ends = range_ends _ c.args.self.range in record { range = range_inside _ (omega (arith, ints)) (omega (arith, ints)) }
 
 pub returns : goal.returns
 unfolding account_most

@@ -8,6 +8,6 @@ pub returns-then-cents : goal.returns-then-cents
 unfolding in_range account_most
 returns-then-cents c = grind (arith, ints)
 
-pub invariant-of-result : goal.invariant-of-result
+pub invariant_of-result : goal.invariant_of-result
 unfolding in_range account_most
-invariant-of-result c = grind (arith, ints)
+invariant_of-result c = grind (arith, ints)

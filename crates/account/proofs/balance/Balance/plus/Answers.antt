@@ -4,25 +4,25 @@ use Rattle.account.specs.Limits.{account_most}
 use Rattle.account.proofs.Ranges.{range_ends, range_inside, range_above}
 use Rattle.account.proofs.balance.Balance.plus.Goals as goal
 
-pub overflow-sub-self : goal.overflow-sub-self
+pub overflow_sub-self : goal.overflow_sub-self
 unfolding account_most
-overflow-sub-self c = omega (arith, ints, range_ends _ c.args.self.range)
+overflow_sub-self c = omega (arith, ints, range_ends _ c.args.self.range)
 
 pub returns-then-paid-room : goal.returns-then-paid-room
 unfolding account_most
 returns-then-paid-room c = range_above _ (omega (arith, ints, range_ends _ c.args.self.range))
 
-pub overflow-cast-result : goal.overflow-cast-result
+pub overflow_cast-result : goal.overflow_cast-result
 unfolding account_most
-overflow-cast-result c = omega (arith, ints, range_ends _ c.args.self.range)
+overflow_cast-result c = omega (arith, ints, range_ends _ c.args.self.range)
 
-pub overflow-add-result : goal.overflow-add-result
+pub overflow_add-result : goal.overflow_add-result
 unfolding account_most
-overflow-add-result c = omega (arith, ints, range_ends _ c.args.self.range)
+overflow_add-result c = omega (arith, ints, range_ends _ c.args.self.range)
 
-pub invariant-of-result : goal.invariant-of-result
+pub invariant_of-result : goal.invariant_of-result
 unfolding account_most
-invariant-of-result c = let ends = range_ends _ c.args.self.range in (range_inside _ (omega (arith, ints)) (omega (arith, ints)), tt)
+invariant_of-result c = let ends = range_ends _ c.args.self.range in record { range = range_inside _ (omega (arith, ints)) (omega (arith, ints)) }
 
 pub returns : goal.returns
 unfolding account_most
