@@ -1,5 +1,5 @@
 -- Rows of words: a word that is written is the change of the state at one place.
-use Rattle.std.proofs.Common.{◌≡◌, ℕ, ◌+◌, ◌<◌, ◌≤◌, false, cond, List, length, set, ℤ, pos, ◌+ℤ◌, ◌-ℤ◌, sym, refl, ap, ◌∙◌, subst, ap₂, inl, inr, add-zero, arith, w64, to_z}
+use Rattle.std.proofs.Common.{◌≡◌, ℕ, ◌+◌, ◌<◌, ◌≤◌, false, cond, List, length, set, pos, ◌+ℤ◌, ◌-ℤ◌, sym, refl, ap, ◌∙◌, subst, ap₂, inl, inr, add-zero, arith, w64, to_z}
 use mathlib.Core.Path.{fun_ext}
 use lib.IntN.{+ℤ_idr}
 use Rattle.std.proofs.lemmas.List.{get_or-set_same, get_or-set_other}
@@ -17,7 +17,7 @@ use Rattle.share.specs.Cost.{only, together}
 use Rattle.share.specs.Weight.{once}
 use Rattle.share.proofs.Building.{only_same, only_other}
 use Rattle.cents.specs.Closing.{odds, charged}
-use Rattle.cents.proofs.Closing.{odds_same, charged_same, odds-outside, charged-outside}
+use Rattle.cents.proofs.Closing.{odds_same, charged_same, odds_outside, charged_outside}
 use Rattle.posting.specs.Posting.{closing_cents, booked}
 use Rattle.posting.proofs.Order.{state_same}
 use Rattle.ledger.specs.Held.{inside, state_of, cleared}
@@ -100,14 +100,14 @@ module _ (l : Line) (accounts odd costs : List ℕ) where
         state_same _ _ refl
         (inside_is l.farms (pos 0) (account_at accounts') (λ i. s.accounts i -ℤ pos (closing_cents s i))
         (λ i h. paid i h ∙ ap₂ (λ z n. z -ℤ pos n) (sym (inside_below l.farms (pos 0) (account_at accounts) i h)) (same_cents i h))
-        (λ i h. sym (ap₂ (λ z n. z -ℤ pos n) (inside_past l.farms (pos 0) (account_at accounts) i h) (charged-outside l (once l) s.costs s.odd i (λ e. outside i e h) l.parts))))
+        (λ i h. sym (ap₂ (λ z n. z -ℤ pos n) (inside_past l.farms (pos 0) (account_at accounts) i h) (charged_outside l (once l) s.costs s.odd i (λ e. outside i e h) l.parts))))
         (pooled ∙ ap (λ n. account_at accounts l.farms +ℤ pos n) (sum_same l.farms _ _ same_cents))
         refl
         (inside_is l.farms 0 (at odd') (odds l (once l) s.costs s.odd l.parts)
         (λ i h.
         counts i h
         ∙ odds_same l (once l) (at costs) s.costs (at odd) s.odd l.parts (λ e k. sym (inside_below l.parts 0 (at costs) e k)) (λ j k. sym (inside_below l.farms 0 (at odd) j k)) l.parts (omega arith) i h)
-        (λ i h. sym (odds-outside l (once l) s.costs s.odd i (λ e. outside i e h) l.parts ∙ inside_past l.farms 0 (at odd) i h)))
+        (λ i h. sym (odds_outside l (once l) s.costs s.odd i (λ e. outside i e h) l.parts ∙ inside_past l.farms 0 (at odd) i h)))
 
 -- rows with no costs
 pub cleared_rows : (l : Line) (accounts accounts' odd odd' costs costs' : List ℕ) → accounts' ≡ accounts → odd' ≡ odd → ((e : ℕ) → e < l.parts → at costs' e ≡ 0) →

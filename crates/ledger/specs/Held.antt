@@ -1,6 +1,6 @@
 -- The state that the rows lent to a ledger hold, and what no booking changes.
 use Rattle.std.specs.Prelude.{◌≡◌, ℕ, ◌+◌, cond, List, drop, pos, nat_lt}
-use Rattle.line.specs.Held.{held as line-held}
+use Rattle.line.specs.Held.{held as line_held}
 use Rattle.line.specs.Line.{Line}
 use Rattle.account.specs.Range.{account_at}
 use Rattle.share.specs.Answer.{at}
@@ -23,7 +23,7 @@ state_of l accounts odd costs = record {
 
 -- the state that a ledger holds
 abbrev pub held : Ledger → State
-held g = state_of (line-held g.line.now) g.accounts.now g.odd.now g.costs.now
+held g = state_of (line_held g.line.now) g.accounts.now g.odd.now g.costs.now
 
 -- the state where no costs are left
 abbrev pub cleared : State → State

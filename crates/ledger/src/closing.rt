@@ -19,9 +19,9 @@ use account::balance::Balance;
 use cents::costs::split_parts;
 use cents::limits::COUNTS_END;
 use line::limits::MOST_FARMS;
-use number::cents::Cents;
-use line::refusal::{Holder, Refusal};
 use line::names::Farm;
+use line::refusal::{Holder, Refusal};
+use number::cents::Cents;
 
 // The word of an account after so much is taken out, in range or not.
 fn debited(account: u64, cents: u64) -> u64

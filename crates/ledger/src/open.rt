@@ -5,8 +5,8 @@ ghost use Rattle.ledger.specs.Room.{sheet_length};
 
 use crate::closing::whose_off;
 use line::read::{check_line, read_line};
-use line::size::Size;
 use line::refusal::{Holder, Lent, Refusal};
+use line::size::Size;
 use share::costs::refused_costs;
 
 // The most bytes that the sheet of a closing takes.

@@ -13,9 +13,9 @@ use crate::ledger::Ledger;
 use account::balance::Balance;
 use account::limits::BOOKING_MOST;
 use line::limits::COSTS_END;
-use number::cents::Cents;
-use line::refusal::{Holder, Refusal};
 use line::names::{Farm, Part};
+use line::refusal::{Holder, Refusal};
+use number::cents::Cents;
 
 // Whether so many cents may be booked.
 fn is_bookable(cents: Cents) -> bool

@@ -4,10 +4,10 @@ use Rattle.account.specs.Limits.{account_most}
 use Rattle.account.proofs.Ranges.{range_ends}
 use Rattle.ledger.proofs.closing.debited.Goals as goal
 
-pub overflow-sub-cast-signed : goal.overflow-sub-cast-signed
+pub overflow_sub-cast_signed : goal.overflow_sub-cast_signed
 unfolding account_most
-overflow-sub-cast-signed c = omega (arith, ints, range_ends _ c.requires.range)
+overflow_sub-cast_signed c = omega (arith, ints, range_ends _ c.requires.range)
 
 pub returns : goal.returns
 unfolding account_most
-returns c = ap (to_z w64) c.cast-unsigned.ensures ∙ omega (arith, ints, range_ends _ c.requires.range)
+returns c = ap (to_z w64) c.cast_unsigned.ensures ∙ omega (arith, ints, range_ends _ c.requires.range)

@@ -13,4 +13,4 @@ not_twice : (a b : Bool) → not a ≡ b → a ≡ not b
 not_twice a b h = grind arith
 
 pub returns : goal.returns
-returns c = not_twice _ _ (sym c.is-none.ensures ∙ stands _ _ c.of-word.ensures)
+returns c = not_twice _ _ (sym c.is_none.ensures ∙ stands _ _ c.of_word.ensures)

@@ -16,8 +16,8 @@ debited-requires c = record {
   small = omega (arith, sum_has c.args.farms c.loop-i.i (at c.args.sums.now) c.loop-i-test.true, c.requires.small);
 }
 
-pub overflow-add-total : goal.overflow-add-total
-overflow-add-total c =
+pub overflow_add-total : goal.overflow_add-total
+overflow_add-total c =
     let sums = at c.args.sums.now in
     let i = c.loop-i.i in
     let n = c.args.farms in

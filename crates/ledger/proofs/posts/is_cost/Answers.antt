@@ -5,13 +5,13 @@ use Rattle.account.specs.Limits.{booking_most}
 use Rattle.account.specs.Range.{bookable}
 use Rattle.ledger.proofs.posts.is_cost.Goals as goal
 
-pub overflow-add-result : goal.overflow-add-result
+pub overflow_add-result : goal.overflow_add-result
 unfolding bookable booking_most costs_end
-overflow-add-result c = grind (arith, nat_tests)
+overflow_add-result c = grind (arith, nat_tests)
 
-pub returns-then-is-bookable : goal.returns-then-is-bookable
+pub returns-then-is_bookable : goal.returns-then-is_bookable
 unfolding costs_end
-returns-then-is-bookable c = grind (arith, nat_tests)
+returns-then-is_bookable c = grind (arith, nat_tests)
 
-pub returns-else-is-bookable : goal.returns-else-is-bookable
-returns-else-is-bookable c = grind (arith, nat_tests)
+pub returns-else-is_bookable : goal.returns-else-is_bookable
+returns-else-is_bookable c = grind (arith, nat_tests)

@@ -11,10 +11,10 @@ use Rattle.ledger.proofs.Reading.{answered_entry, left_by_entry}
 use Rattle.ledger.proofs.Sounds.{row_done}
 use Rattle.ledger.proofs.ledger.Ledger.book_row.Goals as goal
 
-pub returns-then-answers-div-ceil : goal.returns-then-answers-div-ceil
+pub returns-then-answers-div_ceil : goal.returns-then-answers-div_ceil
 unfolding row_refused
-returns-then-answers-div-ceil c =
-    let few : length c.args.answers.now < answers_of c.args.row.now = omega (arith, c.div-ceil.ensures, c.if-answers-div-ceil.true) in
+returns-then-answers-div_ceil c =
+    let few : length c.args.answers.now < answers_of c.args.row.now = omega (arith, c.div_ceil.ensures, c.if-answers-div_ceil.true) in
     record { refused = rw (lt-ltb _ _ few) refl; row = (refl, refl); left = left_all c.args.self.now }
 
 pub loop-k-init : goal.loop-k-init
@@ -30,7 +30,7 @@ loop-k-preserved c =
     let inside : k * 7 + 7 ≤ length row = omega (arith, c.loop-k-test.true) in (
       c.book.ensures.after ∙ ap (λ n. left_by (held g) (take n (drop (k * 7) row))) seven ∙ left_by_entry k (held g) row inside ∙ ap (λ t. step t (entry row k)) c.loop-k.invariant.0 ∙ sym (run_next s row k),
       below_more _ _ (λ j h. let ne : j ≢ k = omega arith in rw get_or-set_other (c.loop-k.invariant.1 j h))
-          (get_or-set_same c.loop-k.answers k _ Booked (omega (arith, c.div-ceil.ensures, c.if-answers-div-ceil.false, c.loop-k-test.true, c.loop-k.auto.answers))
+          (get_or-set_same c.loop-k.answers k _ Booked (omega (arith, c.div_ceil.ensures, c.if-answers-div_ceil.false, c.loop-k-test.true, c.loop-k.auto.answers))
           ∙ c.book.ensures.answer ∙ ap (λ n. answered k (held g) (take n (drop (k * 7) row))) seven ∙ answered_entry k (held g) row inside ∙ ap (λ t. answer k t (entry row k)) c.loop-k.invariant.0),
       drop-set-lt (answers_of row) c.loop-k.answers k _ (omega (arith, c.loop-k-test.true)) ∙ c.loop-k.invariant.2,
       left_then c.args.self.now g _ c.loop-k.invariant.3 c.book.ensures.left,
@@ -46,11 +46,11 @@ returns-then-row-gt0 c =
     let row = c.args.row.now in
     let m = bookings row in
     record {
-      refused = enough row (length c.args.answers.now) (omega (arith, c.div-ceil.ensures, c.if-answers-div-ceil.false));
+      refused = enough row (length c.args.answers.now) (omega (arith, c.div_ceil.ensures, c.if-answers-div_ceil.false));
       row =
           row_done c.args.self.now (held c.loop-k.self) row c.args.answers.now _ c.loop-k.k (omega (arith, c.loop-k-test.false, c.loop-k.auto.k-end)) c.loop-k.invariant.0
           (λ j h. get_or-set_other c.loop-k.answers m j _ Booked (λ e. omega (arith, c.loop-k.auto.k-end)) ∙ c.loop-k.invariant.1 j h)
-          (λ _. get_or-set_same c.loop-k.answers m _ Booked (omega (arith, c.if-row-gt0.true, c.div-ceil.ensures, c.if-answers-div-ceil.false, c.loop-k.auto.answers)))
+          (λ _. get_or-set_same c.loop-k.answers m _ Booked (omega (arith, c.if-row-gt0.true, c.div_ceil.ensures, c.if-answers-div_ceil.false, c.loop-k.auto.answers)))
           (drop-set-lt (answers_of row) c.loop-k.answers m _ (omega (arith, c.if-row-gt0.true)) ∙ c.loop-k.invariant.2);
       left = c.loop-k.invariant.3;
     }
@@ -59,7 +59,7 @@ pub returns-else-row-gt0 : goal.returns-else-row-gt0
 returns-else-row-gt0 c =
     let row = c.args.row.now in
     record {
-      refused = enough row (length c.args.answers.now) (omega (arith, c.div-ceil.ensures, c.if-answers-div-ceil.false));
+      refused = enough row (length c.args.answers.now) (omega (arith, c.div_ceil.ensures, c.if-answers-div_ceil.false));
       row =
           row_done c.args.self.now (held c.loop-k.self) row c.args.answers.now c.loop-k.answers c.loop-k.k (omega (arith, c.loop-k-test.false, c.loop-k.auto.k-end)) c.loop-k.invariant.0
           c.loop-k.invariant.1 (λ h. absurd (omega (arith, c.if-row-gt0.false))) c.loop-k.invariant.2;

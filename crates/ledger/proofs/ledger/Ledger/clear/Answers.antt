@@ -1,6 +1,6 @@
 use Rattle.std.proofs.Common.{◌<◌, ◌≢◌, length, refl, ap, ◌∙◌, arith, length-set, below_more}
 use Rattle.std.proofs.lemmas.List.{get_or-set_same, get_or-set_other, drop-set-lt}
-use Rattle.line.specs.Held.{held as line-held}
+use Rattle.line.specs.Held.{held as line_held}
 use Rattle.line.specs.Limits.{costs_end}
 use Rattle.ledger.proofs.Lefts.{left_all, left_state}
 use Rattle.ledger.proofs.Rows.{cleared_rows, set_keeps}
@@ -9,14 +9,14 @@ use Rattle.ledger.proofs.ledger.Ledger.clear.Goals as goal
 pub loop-e-init : goal.loop-e-init
 loop-e-init c = (λ k h. absurd (omega arith), refl, refl, left_all c.args.self.now)
 
-pub invariant-of-self : goal.invariant-of-self
+pub invariant_of-self : goal.invariant_of-self
 unfolding costs_end
-invariant-of-self c =
+invariant_of-self c =
     let g = c.loop-e.self in
     let same = ap (λ l. l.size.parts) c.loop-e.invariant.3.line in
     let room : c.loop-e.e < length g.costs.now = omega (arith, g.costs_room, same, c.loop-e-test.true) in
     let fit = set_keeps (λ x. x < costs_end) (λ k. k < g.line.now.size.parts) g.costs.now c.loop-e.e 0 room (omega arith) g.costs_fit in
-    (g.accounts_room, (g.odd_room, (rw length-set g.costs_room, (g.sheet_room, (g.accounts_fit, (g.odd_fit, (fit, tt)))))))
+    record { accounts_room = g.accounts_room; odd_room = g.odd_room; costs_room = rw length-set g.costs_room; sheet_room = g.sheet_room; accounts_fit = g.accounts_fit; odd_fit = g.odd_fit; costs_fit = fit }
 
 pub loop-e-preserved : goal.loop-e-preserved
 loop-e-preserved c =
@@ -46,6 +46,6 @@ returns c =
     let g = c.loop-e.self in
     let left = c.loop-e.invariant.3 in
     record {
-      after = left_state f g left ∙ cleared_rows (line-held f.line.now) _ _ _ _ f.costs.now _ c.loop-e.invariant.1 c.loop-e.invariant.2 (λ e h. c.loop-e.invariant.0 e (omega (arith, c.loop-e-test.false)));
+      after = left_state f g left ∙ cleared_rows (line_held f.line.now) _ _ _ _ f.costs.now _ c.loop-e.invariant.1 c.loop-e.invariant.2 (λ e h. c.loop-e.invariant.0 e (omega (arith, c.loop-e-test.false)));
       left = left;
     }

@@ -1,6 +1,6 @@
 use Rattle.std.proofs.Common.{◌≡◌, ℕ, ◌+◌, ◌<◌, ◌≤◌, true, ◌≢◌, length, get_or, set, refl, ap, ◌∙◌, arith, length-set, w64, to_z, below_more}
 use Rattle.std.proofs.lemmas.List.{get_or-set_same, get_or-set_other, drop-set-lt}
-use Rattle.line.specs.Held.{held as line-held}
+use Rattle.line.specs.Held.{held as line_held}
 use Rattle.account.specs.Range.{in_range}
 use Rattle.cents.specs.Limits.{counts_end}
 use Rattle.ledger.specs.Held.{Left}
@@ -17,29 +17,29 @@ loop-i-init c = (λ k h. absurd (omega arith), λ k h. absurd (omega arith), ref
 accounts_fit : (g : Ledger) (i v : ℕ) → i ≤ g.line.now.size.farms → in_range (to_z w64 v) ≡ true → AccountsFit g.line.now.size.farms (set g.accounts.now i v)
 accounts_fit g i v h new = set_keeps (λ x. in_range (to_z w64 x) ≡ true) (λ k. k ≤ g.line.now.size.farms) g.accounts.now i v (omega (arith, g.accounts_room)) new g.accounts_fit
 
-pub invariant-of-self : goal.invariant-of-self
-invariant-of-self c =
+pub invariant_of-self : goal.invariant_of-self
+invariant_of-self c =
     let g = c.loop-i.self in
     let same = ap (λ l. l.size.farms) c.loop-i.invariant.3.line in
     let fit = accounts_fit g c.loop-i.i (get_or c.args.accounts.now c.loop-i.i 0) (omega (arith, same, c.loop-i-test.true)) (c.requires.accounts_fit c.loop-i.i (omega arith)) in
-    (rw length-set g.accounts_room, (g.odd_room, (g.costs_room, (g.sheet_room, (fit, (g.odd_fit, (g.costs_fit, tt)))))))
+    record { accounts_room = rw length-set g.accounts_room; odd_room = g.odd_room; costs_room = g.costs_room; sheet_room = g.sheet_room; accounts_fit = fit; odd_fit = g.odd_fit; costs_fit = g.costs_fit }
 
-pub invariant-of-self-in-loop-i : goal.invariant-of-self-in-loop-i
-invariant-of-self-in-loop-i c =
+pub invariant_of-self-in-loop-i : goal.invariant_of-self-in-loop-i
+invariant_of-self-in-loop-i c =
     let g = c.loop-i.self in
     let same = ap (λ l. l.size.farms) c.loop-i.invariant.3.line in
     let fit = accounts_fit g c.loop-i.i (get_or c.args.accounts.now c.loop-i.i 0) (omega (arith, same, c.loop-i-test.true)) (c.requires.accounts_fit c.loop-i.i (omega arith)) in
     let room : c.loop-i.i < length g.odd.now = omega (arith, g.odd_room, same, c.loop-i-test.true) in
     let counts = set_keeps (λ x. x < counts_end) (λ k. k < g.line.now.size.farms) g.odd.now c.loop-i.i _ room (c.requires.odd_fit c.loop-i.i c.loop-i-test.true) g.odd_fit in
-    (rw length-set g.accounts_room, (rw length-set g.odd_room, (g.costs_room, (g.sheet_room, (fit, (counts, (g.costs_fit, tt)))))))
+    record { accounts_room = rw length-set g.accounts_room; odd_room = rw length-set g.odd_room; costs_room = g.costs_room; sheet_room = g.sheet_room; accounts_fit = fit; odd_fit = counts; costs_fit = g.costs_fit }
 
-pub invariant-of-self-2 : goal.invariant-of-self-2
-invariant-of-self-2 c =
+pub invariant_of-self-2 : goal.invariant_of-self-2
+invariant_of-self-2 c =
     let n = c.args.self.now.line.now.size.farms in
     let g = c.loop-i.self in
     let same = ap (λ l. l.size.farms) c.loop-i.invariant.3.line in
     let fit = accounts_fit g n (get_or c.args.accounts.now n 0) (omega (arith, same)) (c.requires.accounts_fit n (omega arith)) in
-    (rw length-set g.accounts_room, (g.odd_room, (g.costs_room, (g.sheet_room, (fit, (g.odd_fit, (g.costs_fit, tt)))))))
+    record { accounts_room = rw length-set g.accounts_room; odd_room = g.odd_room; costs_room = g.costs_room; sheet_room = g.sheet_room; accounts_fit = fit; odd_fit = g.odd_fit; costs_fit = g.costs_fit }
 
 pub loop-i-preserved : goal.loop-i-preserved
 loop-i-preserved c =
@@ -87,7 +87,7 @@ returns c =
     record {
       after =
           left_state f _ then
-          ∙ rows_same (line-held f.line.now) (set g.accounts.now n (get_or c.args.accounts.now n 0)) c.args.accounts.now g.odd.now c.args.odd.now g.costs.now f.costs.now
+          ∙ rows_same (line_held f.line.now) (set g.accounts.now n (get_or c.args.accounts.now n 0)) c.args.accounts.now g.odd.now c.args.odd.now g.costs.now f.costs.now
           (λ i h.
           below_more (λ k. get_or (set g.accounts.now n (get_or c.args.accounts.now n 0)) k 0 ≡ get_or c.args.accounts.now k 0) n (λ k l. let ne : k ≢ n = omega arith in rw get_or-set_other (c.loop-i.invariant.0 k (omega (arith, c.loop-i-test.false))))
           (get_or-set_same g.accounts.now n _ 0 (omega (arith, g.accounts_room, same))) i (omega arith))
