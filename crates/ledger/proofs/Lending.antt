@@ -48,6 +48,10 @@ mapped_none : (f : Holder → Refusal) (o : Option Holder) → option_map f o �
 mapped_none f (Some w) h = let z : ◌≡◌ {A = ℕ} 0 1 = cc in absurd (omega arith)
 mapped_none f None h = refl
 
+-- room for one more than n
+room_after : (n k : ℕ) → n + 1 ≤ k → n < k
+room_after n k h = omega arith
+
 -- what is not refused fits
 pub lent_fine : (s : Size) (accounts odd costs : List ℕ) (sheet : ℕ) → lent_refused s accounts odd costs sheet ≡ None → LentFits s accounts odd costs sheet
 unfolding lent_refused
@@ -59,7 +63,7 @@ lent_fine s accounts odd costs sheet h =
     let ranges = other_none _ _ third.1 in
     let nobody = sym (mapped_none _ _ ranges.1) in
     record {
-      accounts_room = omega (arith, ltb-false _ _ short.0);
+      accounts_room = room_after _ _ (ltb-false _ _ short.0);
       odd_room = ltb-false _ _ short.1;
       costs_room = ltb-false _ _ second.0;
       sheet_room = ltb-false _ _ third.0;

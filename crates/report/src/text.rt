@@ -1,6 +1,6 @@
 // The text for a line and a row of bookings.
 ghost use Rattle.std.specs.Prelude.{◌≡◌, length, replicate, IfOk};
-ghost use Rattle.line.specs.Held.{held as line-held};
+ghost use Rattle.line.specs.Held.{held as line_held};
 ghost use Rattle.ledger.specs.Held.{state_of};
 ghost use Rattle.ledger.specs.Open.{LentFits};
 ghost use Rattle.ledger.specs.Row.{answers_of};
@@ -13,8 +13,8 @@ use ledger::ledger::Ledger;
 use ledger::open::{open, sheet_bytes};
 use line::limits::{MOST_FARMS, MOST_PARTS};
 use line::line::Line;
-use line::size::Size;
 use line::refusal::Refusal;
+use line::size::Size;
 use std::alloc::{AllocError, Global};
 
 // Books a row in a ledger over lent memory, and tells the answers and the accounts.
@@ -30,7 +30,7 @@ fn booked<'l, 'w, 'a>(
 ) -> Result<Result<String, Refusal>, AllocError>
     requires lent { LentFits line.old.size accounts.old odd.old costs.old (length sheet.old) }
     requires answers { length answers.old ≡ answers_of row.now }
-    ensures { IfOk result (RowTold (state_of (line-held line.old) accounts.old odd.old costs.old) row.now) }
+    ensures { IfOk result (RowTold (state_of (line_held line.old) accounts.old odd.old costs.old) row.now) }
 {
     let mut ledger = Ledger {
         line,

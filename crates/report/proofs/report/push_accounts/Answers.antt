@@ -20,4 +20,4 @@ loop-i-preserved c =
     let g = c.args.ledger.now in
     let i = c.loop-i.i in
     rw (add-one i, farm_account g.line.now.size.farms i g.accounts.now c.loop-i-test.true)
-    (joined (string_bytes c.loop-i.text) (string_bytes c.push-account.new.text) (string_bytes c.args.text.now) (accounts_text (held g) i) (account_text i (account_at g.accounts.now i)) c.loop-i.invariant c.in-ok-push-account.ensures)
+    (joined (string_bytes c.loop-i.text) (string_bytes c.push_account.new.text) (string_bytes c.args.text.now) (accounts_text (held g) i) (account_text i (account_at g.accounts.now i)) c.loop-i.invariant c.in_ok-push_account.ensures)

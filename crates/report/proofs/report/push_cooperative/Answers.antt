@@ -5,5 +5,5 @@ use Rattle.report.proofs.report.push_cooperative.Goals as goal
 
 pub returns : goal.returns
 returns c =
-    made_pushed c.push-str.result _ _ c.as-str.result.now _ c.push-str.ensures.bytes
-    (c.as-str.ensures.value ∙ c.in-ok-told.ensures.ok ∙ ap cooperative_text c.in-Some.ensures)
+    made_pushed c.push_str.result _ _ c.as_str.result.now _ c.push_str.ensures.bytes
+    (c.as_str.ensures.value ∙ c.in_ok-told.ensures.ok ∙ ap cooperative_text c.in-Some.ensures)

@@ -10,7 +10,7 @@ returns c =
     let s = held c.args.ledger.now in
     let told = answers_text xs (length xs) in
     let accounts = accounts_text s s.line.farms in
-    let first = string_bytes c.in-ok-text.text in
-    let second = string_bytes c.push-accounts.new.text in
-    let third = string_bytes c.push-cooperative.new.text in
-    joined second third told accounts (cooperative_text s.cooperative) (added first second told accounts c.in-ok-text.ensures c.in-ok-push-accounts.ensures) c.in-ok-push-cooperative.ensures
+    let first = string_bytes c.in_ok-text.text in
+    let second = string_bytes c.push_accounts.new.text in
+    let third = string_bytes c.push_cooperative.new.text in
+    joined second third told accounts (cooperative_text s.cooperative) (added first second told accounts c.in_ok-text.ensures c.in_ok-push_accounts.ensures) c.in_ok-push_cooperative.ensures

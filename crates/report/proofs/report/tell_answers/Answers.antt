@@ -13,4 +13,4 @@ unfolding answers_text
 loop-k-preserved c =
     let xs = c.args.answers.now in
     let k = c.loop-k.k in
-    rw (add-one k) (added (string_bytes c.loop-k.text) (string_bytes c.push-answer.new.text) (answers_text xs k) (answer_text k (get_or xs k Booked)) c.loop-k.invariant c.in-ok-push-answer.ensures)
+    rw (add-one k) (added (string_bytes c.loop-k.text) (string_bytes c.push_answer.new.text) (answers_text xs k) (answer_text k (get_or xs k Booked)) c.loop-k.invariant c.in_ok-push_answer.ensures)

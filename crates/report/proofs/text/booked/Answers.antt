@@ -8,5 +8,5 @@ returns-in-Err c = never_refused c.args.row.now (length c.args.answers.now) c.in
 
 pub returns : goal.returns
 returns c =
-    c.in-ok-text.ensures
-    ∙ told_row _ (held c.book-row.new.self) c.args.row.now c.args.answers.now c.book-row.new.answers c.in-default.ensures.row (c.book-row.auto.answers ∙ c.requires.answers)
+    c.in_ok-text.ensures
+    ∙ told_row _ (held c.book_row.new.self) c.args.row.now c.args.answers.now c.book_row.new.answers c.in_default.ensures.row (c.book_row.auto.answers ∙ c.requires.answers)

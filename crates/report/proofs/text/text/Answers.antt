@@ -7,10 +7,10 @@ use Rattle.report.proofs.text.text.Goals as goal
 pub returns : goal.returns
 unfolding most_farms most_parts
 returns c =
-    told_blank c.args.bytes.now c.args.row.now c.as-mut-slice.result.now c.as-mut-slice-2.result.now c.as-mut-slice-3.result.now c.as-mut-slice-4.result.now (length c.as-mut-slice-5.result.now)
-    (ap length (c.as-mut-slice.ensures.value ∙ c.in-ok-words.ensures) ∙ length-replicate _ _ ∙ c.words.ensures)
-    (c.as-mut-slice-2.ensures.value ∙ c.in-ok-accounts.ensures)
-    (c.as-mut-slice-3.ensures.value ∙ c.in-ok-odd.ensures)
-    (c.as-mut-slice-4.ensures.value ∙ c.in-ok-costs.ensures)
-    (ap length c.as-mut-slice-5.ensures.value ∙ c.in-ok-sheet.ensures ∙ c.sheet-bytes.ensures)
+    told_blank c.args.bytes.now c.args.row.now c.as_mut_slice.result.now c.as_mut_slice-2.result.now c.as_mut_slice-3.result.now c.as_mut_slice-4.result.now (length c.as_mut_slice-5.result.now)
+    (ap length (c.as_mut_slice.ensures.value ∙ c.in_ok-words.ensures) ∙ length-replicate _ _ ∙ c.words.ensures)
+    (c.as_mut_slice-2.ensures.value ∙ c.in_ok-accounts.ensures)
+    (c.as_mut_slice-3.ensures.value ∙ c.in_ok-odd.ensures)
+    (c.as_mut_slice-4.ensures.value ∙ c.in_ok-costs.ensures)
+    (ap length c.as_mut_slice-5.ensures.value ∙ c.in_ok-sheet.ensures ∙ c.sheet_bytes.ensures)
     c.told.result c.told.ensures
