@@ -6,9 +6,9 @@ mod tests {
     use change::change::{join, leave};
     use line::limits::MOST_FARMS;
     use line::line::Line;
+    use line::names::{Farm, Part};
     use line::read::read_line;
     use line::refusal::Refusal;
-    use line::names::{Farm, Part};
     use std::ops::Range;
     use std::process::Abort;
     use std::test::Fail;

@@ -10,10 +10,10 @@ mod tests {
     use ledger::ledger::Ledger;
     use ledger::open::open;
     use line::line::Line;
+    use line::names::Farm;
+    use line::refusal::{Holder, Lent, Refusal};
     use line::size::Size;
     use number::cents::Cents;
-    use line::refusal::{Holder, Lent, Refusal};
-    use line::names::Farm;
     use std::process::Abort;
     use std::test::Fail;
 
