@@ -1,5 +1,5 @@
 -- Counts that are too large stay too large: it does not matter by how much they are.
-use Rattle.std.proofs.Common.{◌≡◌, ℕ, zero, suc, ◌+◌, ◌<◌, ◌≤◌, min, Bool, ◌&&◌, ◌||◌, eqb, ltb, leb, ◌⊎◌, List, sym, ap, ◌∙◌, ap₂, inl, inr, arith}
+use Rattle.std.proofs.Common.{◌≡◌, ℕ, zero, suc, ◌+◌, ◌<◌, ◌≤◌, min, Bool, ◌&&◌, ◌||◌, eqb, ltb, leb, ◌⊎◌, List, refl, sym, ap, ◌∙◌, ap₂, inl, inr, arith}
 use Rattle.std.proofs.lemmas.Bool.{cases_lt, le-leb, leb-false}
 use Rattle.std.proofs.lemmas.Bool.Decides.{nat_tests}
 use Rattle.number.specs.First.{first}
@@ -15,7 +15,7 @@ use Rattle.cents.specs.Closing.{odds, charged}
 use Rattle.cents.specs.Limits.{counts_end}
 use Rattle.cents.specs.Rank.{before, rank}
 use Rattle.cents.specs.Split.{broken, rest, pays_odd, odd_cent, odd_after}
-use Rattle.cents.proofs.Same.{cents_same, odd_after_same}
+use Rattle.cents.proofs.Closing.{odds_same, charged_same}
 
 -- each of the first n has the same count in both, or one that is too large in both
 abbrev Like : (n end : ℕ) → (ℕ → ℕ) → (ℕ → ℕ) → Type 0
@@ -55,16 +55,6 @@ module _ (l : Line) (weight : Weights) (c : Costs) where
   odds_least odd zero i = omega arith
   odds_least odd (suc k) i = omega (arith, odds_least odd k i)
 
-  -- counts that are the same stay so, and so are sums
-  odds_same : (a b : ℕ → ℕ) → ((i : ℕ) → i < l.farms → a i ≡ b i) → (k i : ℕ) → i < l.farms → odds l weight c a k i ≡ odds l weight c b k i
-  unfolding odds
-  odds_same a b same zero i h = same i h
-  odds_same a b same (suc k) i h = odd_after_same l weight k (c k) (odds l weight c a k) (odds l weight c b k) (odds_same a b same k) i h
-
-  charged_same : (a b : ℕ → ℕ) → ((i : ℕ) → i < l.farms → a i ≡ b i) → (k i : ℕ) → i < l.farms → charged l weight c a i k ≡ charged l weight c b i k
-  unfolding charged
-  charged_same a b same k i h = sum_same k _ _ (λ e _. cents_same l weight e (c e) (odds l weight c a e) (odds l weight c b e) (odds_same a b same e) i h)
-
 module _ (l : Line) (costs odd counts : List ℕ) (capped : (i : ℕ) → i < l.farms → at counts i ≡ min (at odd i) counts_end) where
   past_like : (i : ℕ) → i < l.farms → past (odds_then l costs counts) i ≡ past (odds_then l costs odd) i
   past_like i h = same _ _ (odds_like l (once l) (at costs) counts_end (at counts) (at odd) (λ j g. start j (capped j g)) l.parts i h)
@@ -93,7 +83,7 @@ module _ (l : Line) (costs odd counts : List ℕ) (capped : (i : ℕ) → i < l.
         )
 
     pub odds_capped : l.farms ≤ first l.farms (past (at then)) → (i : ℕ) → i < l.farms → odds_then l costs counts i ≡ odds_then l costs odd i
-    odds_capped none i h = odds_same l (once l) (at costs) (at counts) (at odd) (uncapped none) l.parts i h
+    odds_capped none i h = odds_same l (once l) (at costs) (at costs) (at counts) (at odd) l.parts (λ _ _. refl) (uncapped none) l.parts (omega arith) i h
 
     pub charged_capped : l.farms ≤ first l.farms (past (at then)) → (i : ℕ) → i < l.farms → charged l (once l) (at costs) (at counts) i l.parts ≡ charged l (once l) (at costs) (at odd) i l.parts
-    charged_capped none i h = charged_same l (once l) (at costs) (at counts) (at odd) (uncapped none) l.parts i h
+    charged_capped none i h = charged_same l (once l) (at costs) (at costs) (at counts) (at odd) l.parts (λ _ _. refl) (uncapped none) l.parts (omega arith) i h

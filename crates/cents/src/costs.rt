@@ -10,6 +10,7 @@ ghost use Rattle.cents.specs.Asked.{Asked};
 ghost use Rattle.cents.specs.Closing.{charged};
 ghost use Rattle.cents.specs.Limits.{counts_end};
 
+use crate::limits::COUNTS_END;
 use crate::payers::{one_of, write_payers};
 use line::limits::MOST_FARMS;
 use line::line::Line;
@@ -17,14 +18,11 @@ use line::names::{Farm, Part};
 use line::refusal::{Holder, Lent, Refusal};
 use share::costs::refused_costs;
 
-// How many odd cents a farm has paid stays below this; specs/Limits states the same.
-const COUNTS_END: u64 = 4_294_967_296;
-
 // The words that a bit for each farm takes.
 const ROW_WORDS: usize = (MOST_FARMS as usize + 63) / 64;
 
 // Splits the costs part by part: each user pays the same, and one cent more if it is one of the part's payers.
-fn split_parts(line: &Line, costs: &[u64], odd: &mut [u64], sums: &mut [u64])
+pub fn split_parts(line: &Line, costs: &[u64], odd: &mut [u64], sums: &mut [u64])
     requires asked { Asked (held line.now) costs.now odd.old }
     requires room { line.now.size.farms ≤ length sums.old }
     requires clear { (i : ℕ) → i < line.now.size.farms → at sums.old i ≡ 0 }

@@ -3,5 +3,6 @@
 
 pub mod costs;
 mod halving;
+pub mod limits;
 mod payers;
 pub mod theorems;

@@ -1,7 +1,8 @@
 -- The answer to bytes, step by step.
-use Rattle.std.proofs.Common.{◌≡◌, ℕ, ◌*◌, ◌<◌, ◌≤◌, List, length, drop, Ok, Err, ap}
-use Rattle.std.proofs.lemmas.Bool.{le-ltb, lt-ltb}
+use Rattle.std.proofs.Common.{◌≡◌, ℕ, ◌*◌, ◌<◌, ◌≤◌, false, List, length, drop, Ok, Err, Result, refl, sym, ap, subst}
+use Rattle.std.proofs.lemmas.Bool.{le-ltb, lt-ltb, ltb-false}
 use Rattle.number.specs.First.{first}
+use Rattle.number.proofs.Firsts.{each_fails}
 use Rattle.line.specs.declared.refusal.Lent.TheVariants.{Line as TheLine}
 use Rattle.line.specs.declared.refusal.Refusal.{Refusal}
 use Rattle.line.specs.declared.refusal.Refusal.TheVariants.{Users, Short}
@@ -9,6 +10,7 @@ use Rattle.line.specs.declared.size.Size.{Size}
 use Rattle.line.specs.Bytes.{meant}
 use Rattle.line.specs.Reading.{part_faulty, sizing, fitting, and_then, reading, over, filled}
 use Rattle.line.specs.Rows.{across, rows}
+use Rattle.line.proofs.Sizing.{Measured, measured, never_both, passed, taken_same}
 
 -- the size is refused
 pub reading_err : (b : List ℕ) (lent : ℕ) (e : Refusal) → sizing b ≡ Err e → reading b lent ≡ Err e
@@ -34,6 +36,27 @@ fitting_short xs lent s h g = simp (le-ltb _ _ h, lt-ltb _ _ g)
 pub fitting_ok : (xs : List ℕ) (lent : ℕ) (s : Size) → s.parts ≤ first s.parts (part_faulty s.farms xs) → s.parts * across 64 s.farms ≤ lent → fitting xs lent s ≡ Ok s
 unfolding fitting
 fitting_ok xs lent s h g = simp (le-ltb _ _ h, le-ltb _ _ g)
+
+-- what is known of bytes that are taken where so many words are lent
+pub record Fitted (b : List ℕ) (lent : ℕ) (s : Size) : Type 0 where
+  pub size : Measured b s
+  pub fine : (e : ℕ) → e < s.parts → part_faulty s.farms (drop 4 b) e ≡ false
+  pub room : s.parts * across 64 s.farms ≤ lent
+
+-- what is taken at last was a size first
+steps : {s : Size} (r : Result Size Refusal) (f : Size → Result Size Refusal) → and_then r f ≡ Ok s → (t : Size) × (r ≡ Ok t) × (f t ≡ Ok s)
+steps (Ok t) f h = (t, refl, h)
+steps (Err e) f h = absurd (never_both e _ h)
+
+-- bytes that are taken have passed each step
+pub fitted : (b : List ℕ) (lent : ℕ) (s : Size) → reading b lent ≡ Ok s → Fitted b lent s
+unfolding reading fitting
+fitted b lent s h =
+    let t = steps (sizing b) _ h in
+    let p = passed _ _ _ t.2 in
+    let q = passed _ _ _ p.1 in
+    subst (Fitted b lent) (sym (taken_same s _ q.1))
+    (record { size = measured b _ t.1; fine = each_fails _ _ p.0; room = ltb-false _ _ q.0 })
 
 -- a refusal leaves the words
 pub filled_err : (b words : List ℕ) (e : Refusal) → reading b (length words) ≡ Err e → words ≡ filled b words

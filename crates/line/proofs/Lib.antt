@@ -1,8 +1,8 @@
-mod Digits
-mod Rows
+pub mod Digits
+pub mod Rows
 mod Users
 mod Faults
-mod Sizing
+pub mod Sizing
 mod Taking
-mod Answering
+pub mod Answering
 mod Giving

@@ -1,12 +1,14 @@
 -- The size that bytes tell.
-use Rattle.std.proofs.Common.{◌≡◌, ℕ, ◌≤◌, Bool, true, false, cond, ltb, List, length, Ok, Err, Result, sym, refl, ap, ◌∙◌, subst, ap₂, arith}
+use Rattle.std.proofs.Common.{◌≡◌, ℕ, ◌-◌, ◌*◌, ◌≤◌, Bool, true, false, cond, ltb, List, length, take, drop, Ok, Err, Result, sym, refl, ap, ◌∙◌, subst, ap₂, arith}
 use Rattle.std.proofs.lemmas.Bool.{ltb-false, le-ltb, not-false, and_parts, ltb-true, leb-true}
+use Rattle.std.proofs.lemmas.List.{take_rest, length-drop}
 use Rattle.std.proofs.lemmas.Bool.Decides.{nat_tests}
 use Rattle.line.specs.declared.refusal.Refusal.{Refusal}
 use Rattle.line.specs.declared.size.Size.{Size}
 use Rattle.line.specs.Bytes.{two_at, byte_length}
 use Rattle.line.specs.Limits.{most_farms, most_parts, Within, within}
 use Rattle.line.specs.Reading.{whole, sizing}
+use Rattle.line.specs.Rows.{across}
 
 pub within_yes : (most n : ℕ) → Within most n → within most n ≡ true
 within_yes most n h = let p = h.0 in let q = h.1 in grind (arith, nat_tests)
@@ -32,10 +34,18 @@ pub record Measured (b : List ℕ) (s : Size) : Type 0 where
   pub parts : Within most_parts s.parts
   pub whole : length b ≡ byte_length s.farms s.parts
 
+-- no answer is both
+pub never_both : (e : Refusal) (s : Size) → ◌≡◌ {A = Result Size Refusal} (Err e) (Ok s) → ⊥
+never_both e s h = let z : ◌≡◌ {A = ℕ} 0 1 = cc in omega arith
+
 -- a test that refuses has failed where the answer is no refusal
-passed : {s : Size} (t : Bool) (e : Refusal) (x : Result Size Refusal) → cond t (Err e) x ≡ Ok s → (t ≡ false) × (x ≡ Ok s)
-passed true e x h = let z : ◌≡◌ {A = ℕ} 0 1 = cc in absurd (omega arith)
+pub passed : {s : Size} (t : Bool) (e : Refusal) (x : Result Size Refusal) → cond t (Err e) x ≡ Ok s → (t ≡ false) × (x ≡ Ok s)
+passed true e x h = absurd (never_both e _ h)
 passed false e x h = (refl, h)
+
+-- what is taken is one size
+pub taken_same : (s t : Size) → ◌≡◌ {A = Result Size Refusal} (Ok t) (Ok s) → s ≡ t
+taken_same s t h = cc
 
 pub measured : (b : List ℕ) (s : Size) → sizing b ≡ Ok s → Measured b s
 unfolding sizing
@@ -45,15 +55,16 @@ measured b s h =
     let r = passed _ _ _ q.1 in
     let t = passed _ _ _ r.1 in
     let u = passed _ _ _ t.1 in
-    let is = taken s _ u.1 in
+    let is = taken_same s _ u.1 in
     subst (Measured b) (sym is)
     (record { farms_are = refl; parts_are = refl; farms = inside _ _ (not-false _ q.0); parts = inside _ _ (not-false _ r.0); whole = equal _ _ t.0 u.0 })
   where
-    taken : (s t : Size) → ◌≡◌ {A = Result Size Refusal} (Ok t) (Ok s) → s ≡ t
-    taken s t h = cc
-
     equal : (m n : ℕ) → ltb m n ≡ false → ltb n m ≡ false → m ≡ n
     equal m n f g = omega (arith, ltb-false m n f, ltb-false n m g)
 
     inside : (most n : ℕ) → within most n ≡ true → Within most n
     inside most n h = let p = and_parts _ _ h in (ltb-true _ _ p.0, leb-true _ _ p.1)
+
+-- the rows are all that comes after four bytes
+pub rows_long : (b : List ℕ) (s : Size) → Measured b s → length (take (length b - 4) (drop 4 b)) ≡ s.parts * across 8 s.farms
+rows_long b s d = ap length (take_rest b 4) ∙ omega (arith, length-drop 4 b, d.whole)

@@ -1,7 +1,7 @@
 -- The number and the place by which a refusal is told.
 use Rattle.std.specs.Prelude.{ℕ, List, ◌++◌, codes, decimal}
 use Rattle.line.specs.declared.refusal.Lent.{Lent}
-use Rattle.line.specs.declared.refusal.Lent.TheVariants.{Line, Accounts, Costs, Sheet}
+use Rattle.line.specs.declared.refusal.Lent.TheVariants.{Line, Accounts, Costs, Sheet, Answers}
 use Rattle.line.specs.declared.refusal.Refusal.{Refusal}
 use Rattle.line.specs.declared.refusal.Refusal.TheVariants.{Length, Count, Users, Kind, Unknown, Amount, Account, Short, Row, Sum}
 
@@ -11,6 +11,7 @@ lent_place Line = 0
 lent_place Accounts = 1
 lent_place Costs = 2
 lent_place Sheet = 3
+lent_place Answers = 4
 
 -- the number of a refusal
 abbrev pub number_of : Refusal → ℕ

@@ -122,21 +122,28 @@ fn pack(bytes: &[u8], size: Size, words: &mut [u64])
     }
 }
 
+// What `read_line` answers where so many words are lent: the size of the line that the bytes mean, or the refusal. Nothing is written.
+pub fn check_line(bytes: &[u8], lent: usize) -> Result<Size, Refusal>
+    ensures { result ≡ reading bytes.now lent }
+{
+    let size = sized(bytes)?;
+    let fault = first_faulty(&bytes[4..], size);
+    if fault < size.parts as usize {
+        return Err(Refusal::Users(fault));
+    }
+    if lent < size.words() {
+        return Err(Refusal::Short(Lent::Line));
+    }
+    Ok(size)
+}
+
 // Fills lent words with the line that the bytes mean, and answers its size. A refusal leaves them as they were, and words past the line's stay in any case.
 pub fn read_line(bytes: &[u8], words: &mut [u64]) -> Result<Size, Refusal>
     ensures answer { result ≡ reading bytes.now (length words.old) }
     ensures after { words.new ≡ filled bytes.now words.old }
     ensures taken { IfOk result (Taken bytes.now words.new) }
 {
-    let size = sized(bytes)?;
-    let rows = &bytes[4..];
-    let fault = first_faulty(rows, size);
-    if fault < size.parts as usize {
-        return Err(Refusal::Users(fault));
-    }
-    if words.len() < size.words() {
-        return Err(Refusal::Short(Lent::Line));
-    }
-    pack(rows, size, words);
+    let size = check_line(bytes, words.len())?;
+    pack(&bytes[4..], size, words);
     Ok(size)
 }

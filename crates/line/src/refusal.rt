@@ -12,6 +12,8 @@ pub enum Lent {
     Costs,
     // The rows of a sheet, or of a farm's parts.
     Sheet,
+    // The answers to a row of bookings.
+    Answers,
 }
 
 // Whose account or count it is.

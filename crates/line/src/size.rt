@@ -12,7 +12,7 @@ pub struct Size {
 
 impl Size {
     // How many words a part's row takes.
-    pub(crate) fn row_words(self) -> usize
+    pub fn row_words(self) -> usize
         ensures { result ≡ across 64 self.farms }
     {
         (self.farms as usize).div_ceil(64)

@@ -10,7 +10,7 @@ use Rattle.line.specs.Line.{Line}
 use Rattle.share.specs.Answer.{at, too_large, large_refused, costs_refused, shares_refused, farm_refused, parts_refused}
 
 -- a test that refuses has failed where nothing is refused
-passed : (t : Bool) (e : Refusal) (x : Option Refusal) → cond t (Some e) x ≡ None → (t ≡ false) × (x ≡ None)
+pub passed : (t : Bool) (e : Refusal) (x : Option Refusal) → cond t (Some e) x ≡ None → (t ≡ false) × (x ≡ None)
 passed true e x h = let z : ◌≡◌ {A = ℕ} 0 1 = cc in absurd (omega arith)
 passed false e x h = (refl, h)
 

@@ -1,0 +1,29 @@
+use Rattle.std.proofs.Common.{arith}
+use Rattle.std.proofs.lemmas.Int.{ints}
+use Rattle.account.specs.Limits.{account_most}
+use Rattle.account.proofs.Ranges.{range_ends, range_inside, range_above}
+use Rattle.account.proofs.balance.Balance.plus.Goals as goal
+
+pub overflow_sub-self : goal.overflow_sub-self
+unfolding account_most
+overflow_sub-self c = omega (arith, ints, range_ends _ c.args.self.range)
+
+pub returns-then-paid-room : goal.returns-then-paid-room
+unfolding account_most
+returns-then-paid-room c = range_above _ (omega (arith, ints, range_ends _ c.args.self.range))
+
+pub overflow_cast-result : goal.overflow_cast-result
+unfolding account_most
+overflow_cast-result c = omega (arith, ints, range_ends _ c.args.self.range)
+
+pub overflow_add-result : goal.overflow_add-result
+unfolding account_most
+overflow_add-result c = omega (arith, ints, range_ends _ c.args.self.range)
+
+pub invariant_of-result : goal.invariant_of-result
+unfolding account_most
+invariant_of-result c = let ends = range_ends _ c.args.self.range in record { range = range_inside _ (omega (arith, ints)) (omega (arith, ints)) }
+
+pub returns : goal.returns
+unfolding account_most
+returns c = omega (arith, ints, range_ends _ c.args.self.range)

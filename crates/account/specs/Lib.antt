@@ -1,0 +1,5 @@
+pub mod Limits
+pub mod Range
+pub mod Balance
+pub mod Bytes
+pub mod Booking

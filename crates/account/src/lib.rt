@@ -1,0 +1,7 @@
+// Accounts and what is booked: balances, bookings read from bytes, and how each is answered.
+#![tactic(auto)]
+
+pub mod balance;
+pub mod booking;
+pub mod limits;
+pub mod read;

@@ -1,0 +1,61 @@
+-- What opening a ledger answers, and what is known of one that is open.
+use Rattle.std.specs.Prelude.{ℕ, ◌+◌, ◌<◌, ◌≤◌, false, cond, ◌||◌, List, length, is_ok, Some, None, Ok, Err, Option, Result, nat_lt}
+use Rattle.std.specs.Option.{option_or, option_map}
+use Rattle.line.specs.declared.refusal.Holder.{Holder}
+use Rattle.line.specs.declared.refusal.Holder.TheVariants.{Farm as OfFarm, Cooperative}
+use Rattle.line.specs.declared.refusal.Lent.TheVariants.{Accounts, Costs, Sheet}
+use Rattle.line.specs.declared.refusal.Refusal.{Refusal}
+use Rattle.line.specs.declared.refusal.Refusal.TheVariants.{Account, Short}
+use Rattle.line.specs.Line.{Line}
+use Rattle.line.specs.Reading.{reading, filled, and_then, Taken}
+use Rattle.line.specs.declared.size.Size.{Size}
+use Rattle.share.specs.Answer.{large_refused}
+use Rattle.posting.specs.Posting.{out_of_range}
+use Rattle.ledger.specs.Held.{state_of}
+use Rattle.ledger.specs.Room.{sheet_length, AccountsFit, CountsFit, CostsFit}
+
+-- an account or a count that is lent out of range is refused at the farm, the cooperative's at the number of farms
+abbrev pub holder_refusal : ℕ → Holder → Refusal
+holder_refusal n (OfFarm f) = Account f.0 (OfFarm f)
+holder_refusal n Cooperative = Account n Cooperative
+
+-- a line of this size: who uses it has no part in what is in range
+abbrev pub blank : Size → Line
+blank s = record { farms = s.farms; parts = s.parts; uses = λ _ _. false }
+
+-- what is wrong with what is lent for a line of this size: too few accounts or counts, too few costs, too few bytes for a sheet; then a cost that is too large; then an account or a count out of range
+unfoldable pub lent_refused : Size → (accounts odd costs : List ℕ) → ℕ → Option Refusal
+lent_refused s accounts odd costs sheet =
+    cond (nat_lt (length accounts) (s.farms + 1) || nat_lt (length odd) s.farms) (Some (Short Accounts))
+    (cond (nat_lt (length costs) s.parts) (Some (Short Costs))
+    (cond (nat_lt sheet (sheet_length s.farms s.parts)) (Some (Short Sheet))
+    (option_or (large_refused s.parts costs)
+    (option_map (holder_refusal s.farms) (out_of_range (state_of (blank s) accounts odd costs))))))
+
+-- the size, unless something is refused
+abbrev pub unless_refused : Option Refusal → Size → Result Size Refusal
+unless_refused (Some e) s = Err e
+unless_refused None s = Ok s
+
+-- the answer: the line's own refusals come first
+unfoldable pub opening : List ℕ → ℕ → (accounts odd costs : List ℕ) → ℕ → Result Size Refusal
+opening b lent accounts odd costs sheet = and_then (reading b lent) (λ s. unless_refused (lent_refused s accounts odd costs sheet) s)
+
+-- the words after opening: the line that the bytes mean, or as they were
+unfoldable pub opened_words : List ℕ → List ℕ → (accounts odd costs : List ℕ) → ℕ → List ℕ
+opened_words b words accounts odd costs sheet = cond (is_ok (opening b (length words) accounts odd costs sheet)) (filled b words) words
+
+-- what is lent for a line of this size is long enough and in range
+pub record LentFits (s : Size) (accounts odd costs : List ℕ) (sheet : ℕ) : Type 0 where
+  pub accounts_room : s.farms < length accounts
+  pub odd_room : s.farms ≤ length odd
+  pub costs_room : s.parts ≤ length costs
+  pub sheet_room : sheet_length s.farms s.parts ≤ sheet
+  pub accounts_fit : AccountsFit s.farms accounts
+  pub odd_fit : CountsFit s.farms odd
+  pub costs_fit : CostsFit s.parts costs
+
+-- what is known of a ledger that can be made: the words hold the line that the bytes mean, and all else fits it
+pub record Opened (b words accounts odd costs : List ℕ) (sheet : ℕ) (s : Size) : Type 0 where
+  pub line : Taken b words s
+  pub lent : LentFits s accounts odd costs sheet

@@ -1,0 +1,5 @@
+// What is told of a line and a row of bookings.
+#![tactic(auto)]
+
+pub mod report;
+pub mod text;
