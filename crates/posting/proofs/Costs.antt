@@ -1,6 +1,6 @@
 -- Between closings the order of the costs does not matter, whatever becomes of other entries.
 use Rattle.std.proofs.Common.{◌≡◌, Bool, true, false, cond, List, [], ◌∷◌, pos, Some, None, filter, sym, refl, ap, ◌∙◌}
-use Rattle.std.specs.List.{AllByRecursion as All}
+use Rattle.std.specs.List.{AllByRecursion}
 use Rattle.std.proofs.ByRecursion.{all_kept_by}
 use Rattle.number.specs.declared.cents.Cents.{Cents}
 use Rattle.line.specs.declared.names.Farm.{Farm}
@@ -81,7 +81,7 @@ after_payment s f c = go (taken s (Payment f c))
     go false = refl
 
 -- so a row with no closing leaves what its costs alone leave
-left_by_costs : (s t : State) → bare s ≡ bare t → (row : List Entry) → All NoClosing row → bare (run s row) ≡ bare (run t (only_costs row))
+left_by_costs : (s t : State) → bare s ≡ bare t → (row : List Entry) → AllByRecursion NoClosing row → bare (run s row) ≡ bare (run t (only_costs row))
 left_by_costs s t h [] o = h
 left_by_costs s t h (Some (Cost p c) ∷ row) o = left_by_costs (post s (Cost p c)) (post t (Cost p c)) (after_cost s t p c h) row o.1
 left_by_costs s t h (Some (Payment f c) ∷ row) o = left_by_costs (post s (Payment f c)) t (after_payment s f c ∙ h) row o.1
@@ -89,7 +89,7 @@ left_by_costs s t h (Some Closing ∷ row) o = absurd o.0
 left_by_costs s t h (None ∷ row) o = left_by_costs s t h row o.1
 
 -- and its costs are taken if and only if they are taken alone
-taken_alone : (s t : State) → bare s ≡ bare t → (row : List Entry) → All NoClosing row → (CostsTaken s row → AllTaken t (only_costs row)) × (AllTaken t (only_costs row) → CostsTaken s row)
+taken_alone : (s t : State) → bare s ≡ bare t → (row : List Entry) → AllByRecursion NoClosing row → (CostsTaken s row → AllTaken t (only_costs row)) × (AllTaken t (only_costs row) → CostsTaken s row)
 taken_alone s t h [] o = (λ x. x, λ x. x)
 taken_alone s t h (Some (Cost p c) ∷ row) o =
     let same = cost_alike s t p c h in

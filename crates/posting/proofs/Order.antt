@@ -3,7 +3,7 @@ use Rattle.std.proofs.Common.{◌≡◌, ℕ, ◌+◌, ◌<◌, true, List, [], 
 use mathlib.Core.Path.{fun_ext}
 use borrow.Author.Differences.{ints}
 use lib.IntN.{+ℤ_idr}
-use Rattle.std.specs.List.{AllByRecursion as All}
+use Rattle.std.specs.List.{AllByRecursion}
 use Rattle.std.proofs.lemmas.Bool.{cases_eq}
 use Rattle.line.specs.Limits.{costs_end}
 use Rattle.account.specs.Range.{in_range}
@@ -126,14 +126,14 @@ swap s v (Payment f c) Closing _ o ta tb = absurd o
 swap s v Closing b o _ ta tb = absurd o
 
 -- in another order there is no closing either
-pub none_closing : {xs ys : List Entry} → Reordered xs ys → All NoClosing xs → All NoClosing ys
+pub none_closing : {xs ys : List Entry} → Reordered xs ys → AllByRecursion NoClosing xs → AllByRecursion NoClosing ys
 none_closing nothing o = tt
 none_closing (next e r) o = (o.0, none_closing r o.1)
 none_closing (swapped a b xs) o = (o.1.0, (o.0, o.1.1))
 none_closing (after p q) o = none_closing q (none_closing p o)
 
 -- all are taken in the other order, and leave the same state
-free : {xs ys : List Entry} → Reordered xs ys → (s : State) → Sound s → All NoClosing xs → AllTaken s xs → AllTaken s ys × (run s ys ≡ run s xs)
+free : {xs ys : List Entry} → Reordered xs ys → (s : State) → Sound s → AllByRecursion NoClosing xs → AllTaken s xs → AllTaken s ys × (run s ys ≡ run s xs)
 free nothing s v o t = (tt, refl)
 free (next (Some b) r) s v o t = let h = free r (post s b) (stays_sound s (Some b ∷ []) v) o.1 t.1 in ((t.0, h.0), h.1)
 free (next None r) s v o t = absurd t

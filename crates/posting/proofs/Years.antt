@@ -1,6 +1,6 @@
 -- The worked years, by one computation.
 use Rattle.std.proofs.Common.{◌≡◌, ℕ, List, [], ◌∷◌, map, length, get_or, ℤ, pos, ◌*ℤ◌, neg_ℤ, Some, sym, refl, ap, ◌∙◌, zero-add}
-use Rattle.std.specs.List.{range_with_len, AllByRecursion as All}
+use Rattle.std.specs.List.{range_with_len, AllByRecursion}
 use Rattle.std.proofs.lemmas.List.FromFn.{get_or-map-range_with_len}
 use Rattle.number.specs.First.{first}
 use Rattle.number.specs.Fraction.{Fraction, over, ◌⊕◌, sumF}
@@ -50,7 +50,7 @@ year_right y e i k = record { share = record { crossed = ap (λ x. x.0) same }; 
     same = sym (read comes_out) ∙ ap (λ xs. get_or xs i (comes_out y i)) e ∙ read in_table
 
 -- and if they are for all years, each year is right
-all_right : (ys : List Year) → map (for_all comes_out) ys ≡ map (for_all in_table) ys → All AllRight ys
+all_right : (ys : List Year) → map (for_all comes_out) ys ≡ map (for_all in_table) ys → AllByRecursion AllRight ys
 all_right [] e = tt
 all_right (y ∷ ys) e = (year_right y (cc), all_right ys (cc))
 

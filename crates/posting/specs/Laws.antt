@@ -1,6 +1,6 @@
 -- What is promised of every row of bookings, whatever the sound state it starts from.
 use Rattle.std.specs.Prelude.{◌≡◌, ℕ, ◌+◌, ◌<◌, true, false, List, [], ◌∷◌, ◌++◌, pos, ◌+ℤ◌, ◌-ℤ◌, Some, None}
-use Rattle.std.specs.List.{AllByRecursion as All}
+use Rattle.std.specs.List.{AllByRecursion}
 use Rattle.number.specs.Sum.{sum}
 use Rattle.line.specs.Limits.{costs_end}
 use Rattle.account.specs.Range.{in_range}
@@ -88,7 +88,7 @@ AllTaken s (None ∷ row) = ⊥
 
 -- costs and payments that are all taken in one order are taken in every order, and leave the same state
 abbrev pub OrderFree : State → List Entry → State → Type 0
-OrderFree s row t = All NoClosing row → AllTaken s row → (row' : List Entry) → Reordered row row' → AllTaken s row' × (run s row' ≡ t)
+OrderFree s row t = AllByRecursion NoClosing row → AllTaken s row → (row' : List Entry) → Reordered row row' → AllTaken s row' × (run s row' ≡ t)
 
 -- every cost of a row is taken; other entries may be anything
 abbrev pub CostsTaken : State → List Entry → Type 0
@@ -102,7 +102,7 @@ CostsTaken s (None ∷ row) = CostsTaken s row
 -- and each part has cost the same then, and the cooperative's account is the same
 abbrev pub CostsOrderFree : State → List Entry → State → Type 0
 CostsOrderFree s row t =
-    All NoClosing row → CostsTaken s row → (row' : List Entry) → Reordered row row' →
+    AllByRecursion NoClosing row → CostsTaken s row → (row' : List Entry) → Reordered row row' →
     CostsTaken s row' × ((e : ℕ) → (run s row').costs e ≡ t.costs e) × ((run s row').cooperative ≡ t.cooperative)
 
 -- two farms that use the same parts, whose counts were at most one apart, are at most one odd cent apart

@@ -1,6 +1,6 @@
 -- Worked years: who uses which part, what the parts cost, and what each farm pays then.
 use Rattle.std.specs.Prelude.{◌≡◌, ℕ, suc, ◌<◌, Bool, false, ◌||◌, List, [], ◌∷◌, ◌++◌, length, get_or, pos, neg_ℤ, Some, ◌==◌, slice_index, slice_index_or}
-use Rattle.std.specs.List.{AllByRecursion as All}
+use Rattle.std.specs.List.{AllByRecursion}
 use Rattle.number.specs.Fraction.{Fraction, over, ◌≈◌}
 use Rattle.line.specs.Line.{Line}
 use Rattle.account.specs.declared.booking.Booking.TheVariants.{Cost, Closing}
@@ -68,4 +68,4 @@ years =
 
 -- each comes out as the table has it
 abbrev pub YearsRight : Type 0
-YearsRight = All AllRight years
+YearsRight = AllByRecursion AllRight years
