@@ -17,6 +17,10 @@ loop-e-init c = ((λ k h. c.clear.ensures.zeros k h ∙ sym (due_none _ _ _ _)),
 word_small : (scale u x : ℕ) → scale < scale_end → x < costs_end → scale / u * x < 2 ^ 64
 word_small scale u x s c = omega (arith, each_small scale u x s c)
 
+-- and so does what it owes of the parts before, with that
+both_small : (x scale u y : ℕ) → x < 2 ^ 63 → scale < scale_end → y < costs_end → x + scale / u * y < 2 ^ 64
+both_small x scale u y h s c = omega (arith, each_small scale u y s c)
+
 pub overflow_mul-each : goal.overflow_mul-each
 overflow_mul-each c = Fits-of_lt (word_small c.args.scale _ (at c.args.costs.now c.loop-e.e) c.requires.asked.below (c.requires.asked.small _ c.loop-e-test.true))
 
@@ -24,11 +28,11 @@ pub overflow_add-row : goal.overflow_add-row
 overflow_add-row c =
     let line = c.args.line.now in
     let i = c.loop-i.i in
-    omega (
-      arith,
-      owed_used (held line) c.args.scale c.args.costs.now i c.loop-e.e _ _ (sym c.if-uses.ensures) c.users.ensures (c.loop-i.invariant.0.after i (omega arith) c.loop-i-test.true),
-      owed_small (held line) c.args.scale c.args.costs.now c.requires.asked line.used line.parts.1 i (c.loop-e.e + 1) c.loop-i-test.true (omega arith),
-    )
+    let e = c.loop-e.e in
+    let here = c.loop-i.invariant.0.after i (omega arith) c.loop-i-test.true in
+    let low : at c.loop-i.row i < 2 ^ 63 =
+    omega (arith, here, owed_small (held line) c.args.scale c.args.costs.now c.requires.asked line.used line.parts.1 i e c.loop-i-test.true (omega arith)) in
+    Fits-of_lt (both_small (at c.loop-i.row i) c.args.scale _ (at c.args.costs.now e) low c.requires.asked.below (c.requires.asked.small _ c.loop-e-test.true))
 
 pub loop-i-preserved : goal.loop-i-preserved
 loop-i-preserved c =
