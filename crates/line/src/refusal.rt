@@ -29,7 +29,7 @@ pub enum Refusal {
     Length(usize),
     // The number of farms or of parts is out of range: the byte where it stands.
     Count(usize),
-    // A part has a bit that is no farm's, or no user: the part.
+    // A part has a bit that is no farm's, or no user, or would have none: the part.
     Users(usize),
     // A booking's kind is unknown, or something stands where zeros belong: the booking.
     Kind(usize),
@@ -37,7 +37,7 @@ pub enum Refusal {
     Unknown(usize),
     // Cents are out of range: the booking, or the part whose cost it is.
     Amount(usize),
-    // An account or a count would be out of range: the booking, or the farm, and whose it is.
+    // An account or a count is out of range, or would be: the booking, or the farm (the number of farms for the cooperative), and whose it is.
     Account { at: usize, whose: Holder },
     // A slice that was lent is too short: which one.
     Short(Lent),

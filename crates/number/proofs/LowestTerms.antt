@@ -1,26 +1,21 @@
 -- A fraction divided by the greatest common divisor is in lowest terms, and lowest terms are the smallest and unique.
-use Rattle.std.proofs.Common.{◌≡◌, ℕ, ◌*◌, ◌/◌, ◌<◌, ◌≤◌, sym, subst, mul_comm, le_antisymm, mul-le-mul_left, one-mul, mul-one, le_of_mul-le-mul_right, arith}
+use Rattle.std.proofs.Common.{◌≡◌, ℕ, ◌*◌, ◌/◌, ◌<◌, ◌≤◌, subst, le_antisymm, mul-le-mul_left, one-mul, le_of_mul-le-mul_right, arith}
 use Prim.Native.Nat.{◌∣◌}
 use native.Mathlib.Nat.{div-mul_cancel}
-use native.Mathlib.Nat.{eq-one_of_dvd-one, one-dvd, dvd-mul_left, dvd-mul_right, dvd_of_mul-dvd-mul_right, mul-dvd-mul_right, le_of_dvd, pos_of_dvd_of_pos}
+use native.Mathlib.Nat.{eq-one_of_dvd-one, dvd-mul_right, dvd_of_mul-dvd-mul_right, mul-dvd-mul_right, le_of_dvd, pos_of_dvd_of_pos}
 use Rattle.number.specs.Divisors.{Greatest}
 use Rattle.number.specs.Fraction.{over, ◌≈◌}
+use Rattle.number.specs.Order.{divides_bottom}
 use Rattle.number.specs.LowestTerms.{Lowest, LowestUnique, LowestLeast, LowestExists}
-use Rattle.number.proofs.Euclid.{greatest_times, greatest_pos, divided_cross, always_one}
+use Rattle.number.proofs.Euclid.{greatest_pos, divided_cross, always_one}
 use Rattle.number.proofs.Fractions.{same_sym, ◌then◌}
 use Rattle.number.proofs.Crosswise.{over_cross, cross_over}
-
--- the greatest common divisor of what is in lowest terms is 1
-lowest_greatest : (a b : ℕ) → Lowest a b → Greatest a b 1
-lowest_greatest a b l = record { left = one-dvd a; right = one-dvd b; greatest = λ c p q. subst (λ x. x ∣ 1) (sym (l c p q)) (one-dvd 1) }
 
 -- the bottom in lowest terms divides every other bottom of that value, so that both numbers are the smallest
 pub lowest_least : LowestLeast
 lowest_least a b p q h k l e =
     let crossed : a * q ≡ p * b = cross_over a b p q h k e in
-    let scaled : Greatest (q * a) (q * b) (q * 1) = greatest_times a b 1 q (lowest_greatest a b l) in
-    let divides : b ∣ q * 1 = scaled.greatest b (rw (mul_comm q a, crossed) (dvd-mul_left b p)) (dvd-mul_left b q) in
-    let under : b ≤ q = le_of_dvd k (rw mul-one at divides) in
+    let under : b ≤ q = le_of_dvd k (divides_bottom a b p q h l crossed) in
     (le_of_mul-le-mul_right (omega (arith, mul-le-mul_left a under)) h, under)
 
 -- each of two in lowest terms is the smaller

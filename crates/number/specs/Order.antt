@@ -80,11 +80,9 @@ crosswise_total = record {
       ∙ scaled x.bottom (y.top * z.bottom) (z.top * y.bottom) x.positive;
 }
 
--- two fractions in lowest terms with equal products crosswise have the same bottom
-same_bottom : (a b p q : ℕ) → 0 < b → 0 < q → Lowest a b → Lowest p q → a * q ≡ p * b → b ≡ q
-same_bottom a b p q h k l m e =
-    dvd_antisymm (divides_other (suc b) a b q (omega arith) h l (subst (λ x. b ∣ x) (sym e) (dvd-mul_left b p)))
-    (divides_other (suc q) p q b (omega arith) k m (subst (λ x. q ∣ x) e (dvd-mul_left q a)))
+-- so the bottom in lowest terms divides every other bottom of that value
+pub divides_bottom : (a b p q : ℕ) → 0 < b → Lowest a b → a * q ≡ p * b → b ∣ q
+divides_bottom a b p q h l e = divides_other (suc b) a b q (omega arith) h l (subst (λ x. b ∣ x) (sym e) (dvd-mul_left b p))
 
 -- fractions that it does not tell apart have the same numbers, and only those
 pub crosswise_ties : (x y : Reduced) → alike x y ≡ is_eq (crosswise x y)
@@ -93,7 +91,8 @@ crosswise_ties x y = at (crosswise x y) (ranks (x.top * y.bottom) (y.top * x.bot
     at : (r : Ordering) → MatchOrdering r (x.top * y.bottom < y.top * x.bottom) (x.top * y.bottom ≡ y.top * x.bottom) (y.top * x.bottom < x.top * y.bottom) → alike x y ≡ is_eq r
     at Less h = grind (arith, nat_tests)
     at Equal h =
-        let low = same_bottom x.top x.bottom y.top y.bottom x.positive y.positive x.lowest y.lowest h in
+        let low : x.bottom ≡ y.bottom =
+        dvd_antisymm (divides_bottom x.top x.bottom y.top y.bottom x.positive x.lowest h) (divides_bottom y.top y.bottom x.top x.bottom y.positive y.lowest (sym h)) in
         let crossed : x.top * y.bottom ≡ y.top * y.bottom = rw low at h in
         let high : x.top ≡ y.top = le_antisymm (le_of_mul-le-mul_right (omega arith) y.positive) (le_of_mul-le-mul_right (omega arith) y.positive) in
         grind (arith, nat_tests)
