@@ -2,11 +2,12 @@
 ghost use Rattle.std.specs.Prelude.{◌≡◌, IfOk, string_bytes};
 ghost use Rattle.book.specs.Accounts.{opening_text, Told};
 
+use crate::trouble::Trouble;
 use line::limits::{MOST_FARMS, MOST_PARTS};
-use line::read::read_line;
-use line::refusal::Refusal;
+use line::read::check_line;
 use line::size::Size;
 use std::alloc::{AllocError, Global};
+use std::fmt::Write;
 
 // The accounts of so many farms and of the cooperative before anything is booked, each in a line of text.
 fn opening(heap: Global, farms: u16) -> Result<String, AllocError>
@@ -14,24 +15,20 @@ fn opening(heap: Global, farms: u16) -> Result<String, AllocError>
 {
     let mut text = String::new(heap);
     for i in 0..farms {
-        let told = format!(in heap; "farm {i} 0\n")?;
-        text.push_str(told.as_str())?;
+        writeln!(text, "farm {i} 0")?;
     }
     text.push_str("cooperative 0\n")?;
     Ok(text)
 }
 
-// The accounts of the line that the bytes mean, or why it is refused.
-pub fn accounts(heap: Global, line: &[u8]) -> Result<Result<String, Refusal>, AllocError>
-    ensures { IfOk result (Told line.now) }
+// The accounts of the line that the bytes mean, or why they are not told.
+pub fn accounts(heap: Global, line: &[u8]) -> Result<String, Trouble>
+    ensures { Told line.now result }
 {
     let most = Size {
         farms: MOST_FARMS,
         parts: MOST_PARTS,
     };
-    let mut words = vec![in heap; 0u64; most.words()]?;
-    match read_line(line, words.as_mut_slice()) {
-        Ok(size) => Ok(Ok(opening(heap, size.farms)?)),
-        Err(refusal) => Ok(Err(refusal)),
-    }
+    let size = check_line(line, most.words())?;
+    Ok(opening(heap, size.farms)?)
 }

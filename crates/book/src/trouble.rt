@@ -1,43 +1,42 @@
-// Why nothing was told of a line.
-use std::alloc::AllocError;
-use std::{fmt, io};
+// Why the accounts of a line are not told.
+ghost use Rattle.std.specs.Prelude.{◌≡◌};
+ghost use Rattle.book.specs.declared.trouble.Trouble.TheVariants.{Refused, Memory};
 
-#[derive(Drop)]
+use line::refusal::Refusal;
+use std::alloc::AllocError;
+use std::io;
+use thiserror::Error;
+
+#[derive(Debug, Drop, Error)]
 pub enum Trouble {
-    // The arguments are not the names of two files.
+    #[error("usage: book LINE BOOKINGS")]
     Usage,
-    // The arguments cannot be read.
+    #[error("book: cannot read the arguments: {0}")]
     Arguments(io::Error),
-    // A file cannot be read.
+    #[error("book: cannot read {0:?}: {1}")]
     Unreadable(String, io::Error),
-    // There is no memory left.
-    Memory,
-    // There are bookings.
+    #[error("{0}")]
+    Refused(Refusal),
+    #[error("book: BOOKINGS must be empty: bookings cannot be booked yet")]
     Bookings,
-    // Standard output cannot be written.
+    #[error("book: cannot write: {0}")]
     Output(io::Error),
+    #[error("book: out of memory")]
+    Memory,
 }
 
-impl From<AllocError> for Trouble {
-    fn from(_why: AllocError) -> Trouble {
-        Trouble::Memory
+impl From<Refusal> for Trouble {
+    ghost from_gives = { λ refusal trouble. trouble ≡ Refused refusal };
+
+    fn from(refusal: Refusal) -> Trouble {
+        Trouble::Refused(refusal)
     }
 }
 
-impl fmt::Display for Trouble {
-    fn fmt<W: fmt::Write>(&self, f: &mut fmt::Formatter<W>) -> fmt::Result {
-        match self {
-            Trouble::Usage => write!(f, "usage: book LINE BOOKINGS"),
-            Trouble::Arguments(why) => write!(f, "book: cannot read the arguments: {why}"),
-            Trouble::Unreadable(name, why) => write!(f, "book: cannot read {name:?}: {why}"),
-            Trouble::Memory => write!(f, "book: out of memory"),
-            Trouble::Bookings => {
-                write!(
-                    f,
-                    "book: BOOKINGS must be empty: bookings cannot be booked yet"
-                )
-            }
-            Trouble::Output(why) => write!(f, "book: cannot write: {why}"),
-        }
+impl From<AllocError> for Trouble {
+    ghost from_gives = { λ _ trouble. trouble ≡ Memory };
+
+    fn from(_why: AllocError) -> Trouble {
+        Trouble::Memory
     }
 }

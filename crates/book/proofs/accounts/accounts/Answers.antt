@@ -1,18 +1,21 @@
-use Rattle.std.proofs.Common.{◌≡◌, length, is_ok, sym, ap, ◌∙◌, arith}
+use Rattle.std.proofs.Common.{is_ok, sym, ap, ◌∙◌}
+use Rattle.std.proofs.lemmas.Result.{err_from_is_err_and}
+use Rattle.line.specs.Bytes.{meant}
 use Rattle.line.specs.Limits.{most_farms, most_parts}
 use Rattle.line.specs.Reading.{reading}
-use Rattle.line.specs.Rows.{word_length}
+use Rattle.line.proofs.Answering.{fitted}
 use Rattle.book.specs.Accounts.{opening_text}
 use Rattle.book.proofs.accounts.accounts.Goals as goal
 
-pub returns-in-Ok : goal.returns-in-Ok
+pub returns-in_err-size : goal.returns-in_err-size
 unfolding most_farms most_parts
-returns-in-Ok c =
-    let lent : length c.as_mut_slice.result.now ≡ word_length most_farms most_parts = omega (arith, c.in_ok-words.ensures.len) in
-    (sym (ap is_ok (c.in-Ok.ensures.answer ∙ ap (reading c.args.line.now) lent)), c.in_ok-opening-in-Ok.ensures ∙ ap (λ l. opening_text l.farms) c.in-Ok.ensures.taken.same)
+returns-in_err-size c =
+    let p = err_from_is_err_and c.from_residual.result c.from_residual.ensures.1 in
+    rw (p.1, p.2) (ap (reading c.args.line.now) (sym c.words.ensures) ∙ sym c.in_err-size.ensures)
 
 pub returns : goal.returns
-unfolding most_farms most_parts
+unfolding most_farms most_parts meant
 returns c =
-    let lent : length c.as_mut_slice.result.now ≡ word_length most_farms most_parts = omega (arith, c.in_ok-words.ensures.len) in
-    sym (c.in-Err.ensures.answer ∙ ap (reading c.args.line.now) lent)
+    let is = ap (reading c.args.line.now) (sym c.words.ensures) ∙ sym c.in_ok-size.ensures in
+    let s = fitted c.args.line.now 6300 c.in_ok-size.size is in
+    (ap is_ok is, c.in_ok-opening.ensures ∙ ap opening_text s.size.farms_are)
