@@ -3,7 +3,7 @@ use Rattle.std.proofs.Common.{◌≡◌, ℕ, ◌+◌, ◌*◌, ◌/◌, ◌%◌
 use borrow.Rule.Slice.PartMut.{put_mid, post_of}
 use Rattle.std.proofs.lemmas.List.{append-nil, drop_all, length-take-le, get_or_append_left, get_or-append_right, get_or_past}
 use Rattle.std.proofs.lemmas.Bool.{cases_lt, le-ltb, lt-ltb}
-use Rattle.number.proofs.Firsts.{first_none}
+use Rattle.number.proofs.Firsts.{none_from}
 use Rattle.line.specs.declared.refusal.Lent.TheVariants.{Line as TheLine}
 use Rattle.line.specs.declared.refusal.Refusal.TheVariants.{Short}
 use Rattle.line.specs.declared.size.Size.{Size}
@@ -57,7 +57,7 @@ module _ (s : Size) (ws : List ℕ) (so : Sound s.farms s.parts ws) where
         same =
             ap₂ (λ x y. line_of 8 x y (rows 8 l)) (let e : n % 256 + n / 256 * 256 ≡ n = omega arith in e) (let e : m % 256 + m / 256 * 256 ≡ m = omega arith in e)
             ∙ same_line 8 64 n m (rows 8 l) ws (omega arith) copy;
-        taken = λ lent h. reading_ok (bytes_of l) lent s size_told ∙ fitting_ok (rows 8 l) lent s (omega (arith, first_none m (part_faulty n (rows 8 l)) fine)) h;
+        taken = λ lent h. reading_ok (bytes_of l) lent s size_told ∙ fitting_ok (rows 8 l) lent s (none_from m (part_faulty n (rows 8 l)) fine) h;
       }
 
 -- four bytes and then rows, written over b

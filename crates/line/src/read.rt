@@ -1,6 +1,6 @@
 // Reading a line from bytes, or refusing it.
 ghost use Rattle.std.specs.Prelude.{◌≡◌, ℕ, ◌+◌, ◌*◌, ◌^◌, ◌<◌, ◌≤◌, length, drop, IfOk, MatchBool, slice_index};
-ghost use Rattle.number.specs.First.{first};
+ghost use Rattle.number.specs.First.{found};
 ghost use Rattle.line.specs.Reading.{sizing, faulty, part_faulty, reading, filled, Taken};
 ghost use Rattle.line.specs.Rows.{has, in_row, across, word_length, SameRows};
 
@@ -39,12 +39,7 @@ fn sized(bytes: &[u8]) -> Result<Size, Refusal>
 fn is_blank(bytes: &[u8]) -> bool
     ensures { MatchBool result ((k : ℕ) → slice_index bytes.now k ≡ 0) ((k : ℕ) × (k < length bytes.now) × (0 < slice_index bytes.now k)) }
 {
-    for byte in bytes {
-        if *byte != 0 {
-            return false;
-        }
-    }
-    true
+    bytes.iter().all(|byte| *byte == 0)
 }
 
 // Whether a part's row has a bit that is no farm's, or none at all.
@@ -58,43 +53,27 @@ fn is_faulty(bytes: &[u8], farms: u16) -> bool
     last >> ((farms - 1) % 8) > 1 || is_blank(bytes)
 }
 
-// The first part whose row is faulty, or the number of parts.
-fn first_faulty(bytes: &[u8], size: Size) -> usize
+// The first part whose row is faulty.
+fn first_faulty(bytes: &[u8], size: Size) -> Option<usize>
     requires some { 0 < size.farms }
     requires whole { length bytes.now ≡ size.parts * across 8 size.farms }
-    ensures { result ≡ first size.parts (part_faulty size.farms bytes.now) }
+    ensures { result ≡ found size.parts (part_faulty size.farms bytes.now) }
 {
-    let width = size.row_bytes();
-    for e in 0..size.parts as usize {
-        if is_faulty(row_of(bytes, width, e), size.farms) {
-            return e;
-        }
-    }
-    size.parts as usize
+    bytes
+        .chunks_exact(size.row_bytes())
+        .position(|row| is_faulty(row, size.farms))
 }
 
-// The byte at a place, and 0 past the end.
-fn byte_at(bytes: &[u8], k: usize) -> u8
-    ensures { result ≡ slice_index bytes.now k }
-{
-    if k < bytes.len() { bytes[k] } else { 0 }
-}
-
-// Eight bytes from place k on as one word.
+// The eight bytes from place k on as one word; past the end stand zeros.
 fn word_at(bytes: &[u8], k: usize) -> u64
     requires { k + 8 < 2 ^ 64 }
     ensures { (i : ℕ) → i < 64 → has result i ≡ in_row 8 bytes.now (8 * k + i) }
 {
-    u64::from_le_bytes([
-        byte_at(bytes, k),
-        byte_at(bytes, k + 1),
-        byte_at(bytes, k + 2),
-        byte_at(bytes, k + 3),
-        byte_at(bytes, k + 4),
-        byte_at(bytes, k + 5),
-        byte_at(bytes, k + 6),
-        byte_at(bytes, k + 7),
-    ])
+    let mut eight = [0; 8];
+    for (j, byte) in eight.iter_mut().enumerate() {
+        *byte = bytes.get(k + j).copied().unwrap_or(0);
+    }
+    u64::from_le_bytes(eight)
 }
 
 // Writes a row of bytes as a row of words.
@@ -102,8 +81,8 @@ fn pack_row(bytes: &[u8], words: &mut [u64])
     requires { length words.old < 2 ^ 16 }
     ensures { (i : ℕ) → i < 64 * length words.new → in_row 64 words.new i ≡ in_row 8 bytes.now i }
 {
-    for k in 0..words.len() {
-        words[k] = word_at(bytes, 8 * k);
+    for (k, word) in words.iter_mut().enumerate() {
+        *word = word_at(bytes, 8 * k);
     }
 }
 
@@ -127,9 +106,8 @@ pub fn check_line(bytes: &[u8], lent: usize) -> Result<Size, Refusal>
     ensures { result ≡ reading bytes.now lent }
 {
     let size = sized(bytes)?;
-    let fault = first_faulty(&bytes[4..], size);
-    if fault < size.parts as usize {
-        return Err(Refusal::Users(fault));
+    if let Some(part) = first_faulty(&bytes[4..], size) {
+        return Err(Refusal::Users(part));
     }
     if lent < size.words() {
         return Err(Refusal::Short(Lent::Line));

@@ -1,5 +1,6 @@
-use Rattle.std.proofs.Common.{◌≡◌, ℕ, ◌+◌, ◌*◌, ◌/◌, ◌%◌, ◌^◌, get_or, ap, ◌∙◌, ap₂, arith, rules}
+use Rattle.std.proofs.Common.{◌≡◌, ℕ, ◌+◌, ◌*◌, ◌/◌, ◌%◌, ◌^◌, get_or, sym, ap, ◌∙◌, ap₂, arith, rules}
 use Rattle.number.specs.Sum.{sum}
+use Rattle.number.proofs.Sums.{sum_same}
 use Rattle.line.specs.Rows.{has}
 use Rattle.line.proofs.Digits.{has_digits}
 use Rattle.line.proofs.read.word_at.Goals as goal
@@ -13,7 +14,7 @@ pub returns : goal.returns
 returns c i h =
     let b = c.args.bytes.now in
     let k = c.args.k in
-    let first : get_or b (k + 0) 0 ≡ get_or b k 0 = ap (λ x. get_or b x 0) (omega arith) in
-    let whole : c.from_le_bytes.result ≡ sum 8 (λ j. get_or b (k + j) 0 * 2 ^ (8 * j)) = omega (arith, eight (λ j. get_or b (k + j) 0)) in
+    let whole : c.from_le_bytes.result ≡ sum 8 (λ j. get_or b (k + j) 0 * 2 ^ (8 * j)) =
+    c.from_le_bytes.ensures ∙ sym (eight (λ j. get_or c.loop-j.byte-items j 0)) ∙ sum_same 8 _ _ (λ j l. ap (λ x. x * 2 ^ (8 * j)) (c.loop-j.invariant j (omega arith))) in
     ap (λ x. has x i) whole ∙ has_digits 8 8 (λ j. get_or b (k + j) 0) i (omega arith) (λ j. search rules) h
     ∙ ap₂ (λ x y. has (get_or b x 0) y) (let e : k + i / 8 ≡ (8 * k + i) / 8 = omega arith in e) (let e : i % 8 ≡ (8 * k + i) % 8 = omega arith in e)
