@@ -69,10 +69,10 @@ fn word_at(bytes: &[u8], k: usize) -> u64
     requires { k + 8 < 2 ^ 64 }
     ensures { (i : ℕ) → i < 64 → has result i ≡ in_row 8 bytes.now (8 * k + i) }
 {
+    let from = k.min(bytes.len());
+    let to = (k + 8).min(bytes.len());
     let mut eight = [0; 8];
-    for (j, byte) in eight.iter_mut().enumerate() {
-        *byte = bytes.get(k + j).copied().unwrap_or(0);
-    }
+    eight[..to - from].copy_from_slice(&bytes[from..to]);
     u64::from_le_bytes(eight)
 }
 
