@@ -52,12 +52,12 @@ impl Refusal {
     }
 }
 
+impl std::error::Error for Refusal {}
+
 impl fmt::Display for Refusal {
     ghost output = { λ r. Some (told r) };
 
     fn fmt<W: fmt::Write>(&self, f: &mut fmt::Formatter<W>) -> fmt::Result {
-        let number = self.number();
-        let place = self.place();
-        write!(f, "refused {number} at {place}")
+        write!(f, "refused {} at {}", self.number(), self.place())
     }
 }

@@ -14,8 +14,8 @@ fn unpack_row(words: &[u64], bytes: &mut [u8])
     requires { length bytes.old ≤ 8 * length words.now }
     ensures { (i : ℕ) → i < 8 * length bytes.new → in_row 8 bytes.new i ≡ in_row 64 words.now i }
 {
-    for k in 0..bytes.len() {
-        bytes[k] = (words[k / 8] >> (8 * (k % 8)) & 0xff) as u8;
+    for (k, byte) in bytes.iter_mut().enumerate() {
+        *byte = (words[k / 8] >> (8 * (k % 8)) & 0xff) as u8;
     }
 }
 
