@@ -6,7 +6,7 @@ ghost use Rattle.line.specs.Rows.{has, in_row, across, word_length, SameRows};
 
 use crate::limits::{MOST_FARMS, MOST_PARTS};
 use crate::refusal::{Lent, Refusal};
-use crate::row::row_of;
+use crate::row::copy_rows;
 use crate::size::Size;
 
 // The size that the first four bytes tell, where the number of bytes fits it.
@@ -93,12 +93,15 @@ fn pack(bytes: &[u8], size: Size, words: &mut [u64])
     ensures same { SameRows 64 (across 64 size.farms) 8 (across 8 size.farms) size.parts words.new bytes.now }
     ensures rest { drop (word_length size.farms size.parts) words.new ≡ drop (word_length size.farms size.parts) words.old }
 {
-    let from = size.row_bytes();
-    let to = size.row_words();
-    for e in 0..size.parts as usize {
-        let at = e * to;
-        pack_row(row_of(bytes, from, e), &mut words[at..at + to]);
-    }
+    let parts = size.parts as usize;
+    copy_rows(
+        bytes,
+        size.row_bytes(),
+        words,
+        size.row_words(),
+        parts,
+        pack_row,
+    );
 }
 
 // What `read_line` answers where so many words are lent: the size of the line that the bytes mean, or the refusal. Nothing is written.

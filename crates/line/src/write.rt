@@ -6,7 +6,7 @@ ghost use Rattle.line.specs.Rows.{in_row, across, word_length, SameRows};
 
 use crate::line::Line;
 use crate::refusal::{Lent, Refusal};
-use crate::row::row_of;
+use crate::row::copy_rows;
 use crate::size::Size;
 
 // Writes the front of a row of words as a row of bytes.
@@ -26,12 +26,15 @@ fn unpack(words: &[u64], size: Size, bytes: &mut [u8])
     ensures same { SameRows 8 (across 8 size.farms) 64 (across 64 size.farms) size.parts bytes.new words.now }
     ensures rest { drop (size.parts * across 8 size.farms) bytes.new ≡ drop (size.parts * across 8 size.farms) bytes.old }
 {
-    let from = size.row_words();
-    let to = size.row_bytes();
-    for e in 0..size.parts as usize {
-        let at = e * to;
-        unpack_row(row_of(words, from, e), &mut bytes[at..at + to]);
-    }
+    let parts = size.parts as usize;
+    copy_rows(
+        words,
+        size.row_words(),
+        bytes,
+        size.row_bytes(),
+        parts,
+        unpack_row,
+    );
 }
 
 impl Line<'_> {
