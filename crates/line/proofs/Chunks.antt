@@ -31,9 +31,10 @@ YieldsList-from_chunks_exact {X} {s} n xs e f some =
     subst₂ (λ k ys. YieldsList chunks_exact_steps (λ y. y.now) s (first_chunks k (length ys / k) ys)) f e
     (YieldsList-from_shown_while chunks_exact_steps (λ y. y.now) (λ t. chunks (chunks_exact_size t) (chunks_exact_rest t)) (λ t. 0 < chunks_exact_size t)
     (λ s t p h. chunks_length (chunks_exact_size s) _ (chunks_exact_rest s) ∙ div-eq_of_lt h.1.0)
-    (λ s x t p h.
-    (subst (λ k. 0 < k) (sym h.0) p,
-    ap (chunks (chunks_exact_size s)) h.1.0 ∙ chunks_more (chunks_exact_size s) x.now (chunks_exact_rest t) p h.1.1 ∙ ap (λ k. x.now ∷ chunks k (chunks_exact_rest t)) (sym h.0)))
+    (λ s x t p h. (
+      subst (λ k. 0 < k) (sym h.0) p,
+      ap (chunks (chunks_exact_size s)) h.1.0 ∙ chunks_more (chunks_exact_size s) x.now (chunks_exact_rest t) p h.1.1 ∙ ap (λ k. x.now ∷ chunks k (chunks_exact_rest t)) (sym h.0),
+    ))
     s (subst (λ k. 0 < k) (sym f) some))
   where
     chunks : ℕ → List X → List (List X)

@@ -1,10 +1,13 @@
 // Reading a line from bytes, or refusing it.
 ghost use Rattle.std.specs.Prelude.{◌≡◌, ℕ, ◌+◌, ◌*◌, ◌^◌, ◌<◌, ◌≤◌, length, drop, IfOk, MatchBool, slice_index};
+ghost use Rattle.std.specs.Result.{result_err};
 ghost use Rattle.number.specs.First.{found};
 ghost use Rattle.line.specs.Reading.{sizing, faulty, part_faulty, reading, filled, Taken};
+ghost use Rattle.line.specs.Held.{HasRead};
 ghost use Rattle.line.specs.Rows.{has, in_row, across, word_length, SameRows};
 
 use crate::limits::{MOST_FARMS, MOST_PARTS};
+use crate::line::Line;
 use crate::refusal::{Lent, Refusal};
 use crate::row::copy_rows;
 use crate::size::Size;
@@ -127,4 +130,15 @@ pub fn read_line(bytes: &[u8], words: &mut [u64]) -> Result<Size, Refusal>
     let size = check_line(bytes, words.len())?;
     pack(&bytes[4..], size, words);
     Ok(size)
+}
+
+impl<'a> Line<'a> {
+    // The line that the bytes mean, kept in the words. Where it is refused, `read_line` alone says what the words hold.
+    pub fn read(bytes: &[u8], words: &'a mut [u64]) -> Result<Line<'a>, Refusal>
+        ensures refused { result_err result ≡ result_err (reading bytes.now (length words.old)) }
+        ensures taken { IfOk result (HasRead bytes.now words.old) }
+    {
+        let size = read_line(bytes, words)?;
+        Ok(Line { size, words })
+    }
 }
