@@ -49,12 +49,8 @@ impl Line<'_> {
         if bytes.len() < end {
             return Err(Refusal::Short(Lent::Line));
         }
-        let [n0, n1] = size.farms.to_le_bytes();
-        let [m0, m1] = size.parts.to_le_bytes();
-        bytes[0] = n0;
-        bytes[1] = n1;
-        bytes[2] = m0;
-        bytes[3] = m1;
+        bytes[..2].copy_from_slice(&size.farms.to_le_bytes());
+        bytes[2..4].copy_from_slice(&size.parts.to_le_bytes());
         unpack(self.words, size, &mut bytes[4..]);
         Ok(end)
     }
