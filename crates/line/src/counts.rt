@@ -14,11 +14,7 @@ fn count_row(row: &[u64]) -> u64
     requires { length row.now < 2 ^ 16 }
     ensures { result ≡ count (64 * length row.now) (in_row 64 row.now) }
 {
-    let mut n: u64 = 0;
-    for word in row {
-        n += u64::from(word.count_ones());
-    }
-    n
+    row.iter().map(|word| u64::from(word.count_ones())).sum()
 }
 
 impl Line<'_> {
