@@ -3,7 +3,6 @@ ghost use Rattle.std.specs.Prelude.{◌≡◌, IfOk, string_bytes};
 ghost use Rattle.book.specs.Accounts.{opening_text, Told};
 
 use crate::trouble::Trouble;
-use line::limits::{MOST_FARMS, MOST_PARTS};
 use line::read::check_line;
 use line::size::Size;
 use std::alloc::{AllocError, Global};
@@ -25,10 +24,6 @@ fn opening(heap: Global, farms: u16) -> Result<String, AllocError>
 pub fn accounts(heap: Global, line: &[u8]) -> Result<String, Trouble>
     ensures { Told line.now result }
 {
-    let most = Size {
-        farms: MOST_FARMS,
-        parts: MOST_PARTS,
-    };
-    let size = check_line(line, most.words())?;
+    let size = check_line(line, Size::LARGEST.words())?;
     Ok(opening(heap, size.farms)?)
 }

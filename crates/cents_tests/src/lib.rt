@@ -6,7 +6,6 @@ mod tests {
     use cents::costs::split_costs;
     use line::line::Line;
     use line::names::Farm;
-    use line::read::read_line;
     use line::refusal::{Holder, Lent, Refusal};
     use std::process::Abort;
     use std::test::Fail;
@@ -21,11 +20,7 @@ mod tests {
         after: [u64; 4],
     ) -> Result<(), Fail> {
         let mut words = [0u64; 4];
-        let size = read_line(bytes, &mut words)?;
-        let line = Line {
-            size,
-            words: &mut words,
-        };
+        let line = Line::read(bytes, &mut words)?;
         let mut odd = before;
         let mut sums = [9u64; 4];
         split_costs(&line, costs, &mut odd, &mut sums)?;
@@ -90,11 +85,7 @@ mod tests {
     #[test]
     fn refusals(rt: HostRuntime) -> Result<(), Fail> {
         let mut words = [0u64; 2];
-        let size = read_line(&[3, 0, 2, 0, 7, 6], &mut words)?;
-        let line = Line {
-            size,
-            words: &mut words,
-        };
+        let line = Line::read(&[3, 0, 2, 0, 7, 6], &mut words)?;
         let mut odd = [4_294_967_295u64; 3];
         let mut sums = [7u64; 3];
         assert_eq!(rt;
@@ -127,11 +118,7 @@ mod tests {
     #[test]
     fn counts_refused(rt: HostRuntime) -> Result<(), Fail> {
         let mut words = [0u64; 2];
-        let size = read_line(&[3, 0, 2, 0, 7, 6], &mut words)?;
-        let line = Line {
-            size,
-            words: &mut words,
-        };
+        let line = Line::read(&[3, 0, 2, 0, 7, 6], &mut words)?;
         let before = [0, 4_294_967_295u64, 4_294_967_296];
         let mut odd = before;
         let mut sums = [7u64; 3];

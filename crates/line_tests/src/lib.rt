@@ -3,7 +3,7 @@
 
 #[cfg(test)]
 mod tests {
-    use line::limits::{MOST_FARMS, MOST_PARTS};
+    use line::limits::MOST_FARMS;
     use line::line::Line;
     use line::names::{Farm, Part};
     use line::read::read_line;
@@ -73,10 +73,8 @@ mod tests {
     // Reads the line of so many farms into lent words, asks about every farm and part, and writes it again.
     fn round(rt: &impl Abort, heap: Global, farms: u16, words: &mut [u64]) -> Result<(), Fail> {
         let given = bytes(heap, farms)?;
-        let size = read_line(given.as_slice(), words)?;
-        assert_eq!(rt; size.farms, farms);
-        assert_eq!(rt; size.parts, 3);
-        let line = Line { size, words };
+        let line = Line::read(given.as_slice(), words)?;
+        assert_eq!(rt; line.size, Size { farms, parts: 3 });
         for part in 0..5u16 {
             part_agrees(rt, &line, farms, part);
         }
@@ -85,11 +83,7 @@ mod tests {
 
     #[test]
     fn sizes(rt: HostRuntime) -> Result<(), Fail> {
-        let most = Size {
-            farms: MOST_FARMS,
-            parts: MOST_PARTS,
-        };
-        let mut words = vec![in rt.alloc(); 7u64; most.words()]?;
+        let mut words = vec![in rt.alloc(); 7u64; Size::LARGEST.words()]?;
         for farms in [1u16, 8, 9, 63, 64, 65, MOST_FARMS] {
             round(&rt, rt.alloc(), farms, words.as_mut_slice())?;
         }
@@ -111,11 +105,7 @@ mod tests {
     #[test]
     fn too_few_bytes(rt: HostRuntime) -> Result<(), Fail> {
         let mut words = [0u64; 3];
-        let size = read_line(&[3, 0, 3, 0, 7, 6, 4], &mut words)?;
-        let line = Line {
-            size,
-            words: &mut words,
-        };
+        let line = Line::read(&[3, 0, 3, 0, 7, 6, 4], &mut words)?;
         let mut out = [9u8; 6];
         assert_eq!(rt; line.write(&mut out), Err(Refusal::Short(Lent::Line)));
         assert_eq!(rt; out, [9u8; 6]);
