@@ -14,7 +14,7 @@ use Rattle.line.specs.Rows.{in_row, across, row, line_of, rows, SameRows}
 use Rattle.line.specs.Sound.{Sound}
 use Rattle.line.proofs.Answering.{reading_ok, fitting_ok}
 use Rattle.line.proofs.Rows.{uses_is, same_line, rows_length, rows_hold}
-use Rattle.line.proofs.Sizing.{sizing_whole}
+use Rattle.line.proofs.Sizing.{sizing_whole, whole_yes}
 use Rattle.line.proofs.Taking.{users_some, same_clear}
 
 module _ (s : Size) (ws : List ℕ) (so : Sound s.farms s.parts ws) where
@@ -42,9 +42,7 @@ module _ (s : Size) (ws : List ℕ) (so : Sound s.farms s.parts ws) where
       let m = s.parts in
       let l = line_of 64 n m ws in
       let len : length (bytes_of l) ≡ byte_length n m = omega (arith, rows_length 8 l) in
-      let enough = le-ltb (length (bytes_of l)) (byte_length n m) (omega arith) in
-      let no_more = le-ltb (byte_length n m) (length (bytes_of l)) (omega arith) in
-      sizing_whole (bytes_of l) s (omega arith) (omega arith) (omega arith) so.farms so.parts ∙ simp (enough, no_more)
+      sizing_whole (bytes_of l) s (omega arith) (omega arith) (omega arith) so.farms so.parts ∙ whole_yes (bytes_of l) s len
 
   -- reading what was written gives the same line
   pub again : Again (line_of 64 s.farms s.parts ws) s

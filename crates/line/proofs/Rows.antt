@@ -6,7 +6,7 @@ use Rattle.std.proofs.lemmas.Nat.{div-add-mod', mod_below, div_below, le-div, di
 use Rattle.std.proofs.lemmas.List.FromFn.{length-map-range_with_len, get_or-map-range_with_len}
 use Rattle.std.proofs.lemmas.List.{ext_get_or, length-take, length-take-le, length-drop, get_or-take, get_or-drop, get_or_past, get_or_append_left, get_or-set_same, get_or-set_other, drop-take, drop-drop, take_at, drop_at}
 use Rattle.std.proofs.lemmas.Slice.{take-put_mid_below, drop-put_mid}
-use Rattle.std.proofs.lemmas.Bool.{cases_lt, cases_eq, lt-ltb, le-ltb, ltb-true}
+use Rattle.std.proofs.lemmas.Bool.{cases_lt, lt-ltb, le-ltb, ltb-true}
 use Rattle.number.proofs.Firsts.{each_fails}
 use Rattle.line.specs.Line.{Line}
 use Rattle.line.specs.Rows.{has, in_row, across, row, stray, line_of, digit, rows, SameRows}

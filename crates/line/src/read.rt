@@ -29,11 +29,8 @@ fn sized(bytes: &[u8]) -> Result<Size, Refusal>
     }
     let size = Size { farms, parts };
     let end = size.bytes();
-    if bytes.len() < end {
-        return Err(Refusal::Length(bytes.len()));
-    }
-    if bytes.len() > end {
-        return Err(Refusal::Length(end));
+    if bytes.len() != end {
+        return Err(Refusal::Length(bytes.len().min(end)));
     }
     Ok(size)
 }

@@ -19,7 +19,7 @@ impl Size {
         parts: MOST_PARTS,
     };
 
-    // How many words a part's row takes.
+    // How many words a part's row takes. A const parameter for this 64 and the 8 below would have to ask that it is not 0.
     pub fn row_words(self) -> usize
         ensures { result ≡ across 64 self.farms }
     {

@@ -74,7 +74,8 @@ mod tests {
     fn round(rt: &impl Abort, heap: Global, farms: u16, words: &mut [u64]) -> Result<(), Fail> {
         let given = bytes(heap, farms)?;
         let line = Line::read(given.as_slice(), words)?;
-        assert_eq!(rt; line.size, Size { farms, parts: 3 });
+        assert_eq!(rt; line.size.farms, farms);
+        assert_eq!(rt; line.size.parts, 3);
         for part in 0..5u16 {
             part_agrees(rt, &line, farms, part);
         }
@@ -105,7 +106,11 @@ mod tests {
     #[test]
     fn too_few_bytes(rt: HostRuntime) -> Result<(), Fail> {
         let mut words = [0u64; 3];
-        let line = Line::read(&[3, 0, 3, 0, 7, 6, 4], &mut words)?;
+        let size = read_line(&[3, 0, 3, 0, 7, 6, 4], &mut words)?;
+        let line = Line {
+            size,
+            words: &mut words,
+        };
         let mut out = [9u8; 6];
         assert_eq!(rt; line.write(&mut out), Err(Refusal::Short(Lent::Line)));
         assert_eq!(rt; out, [9u8; 6]);

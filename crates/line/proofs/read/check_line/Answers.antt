@@ -1,10 +1,9 @@
-use Rattle.std.proofs.Common.{◌≡◌, ℕ, ◌-◌, ◌<◌, ◌≤◌, List, length, take, drop, Some, None, Option, Err, Result, sym, ap, ◌∙◌, subst, arith, rules}
+use Rattle.std.proofs.Common.{◌≡◌, ℕ, ◌-◌, ◌≤◌, List, length, take, drop, Option, Err, Result, sym, ap, ◌∙◌, arith, rules}
 use Rattle.std.proofs.lemmas.List.{take_rest}
 use Rattle.std.proofs.lemmas.Result.{err_from_is_err_and}
 use Rattle.number.specs.First.{found}
 use Rattle.number.proofs.Positions.{found_none}
 use Rattle.line.specs.declared.refusal.Refusal.{Refusal}
-use Rattle.line.specs.declared.refusal.Refusal.TheVariants.{Users}
 use Rattle.line.specs.declared.size.Size.{Size}
 use Rattle.line.specs.Reading.{part_faulty}
 use Rattle.line.proofs.Answering.{reading_err, reading_ok, fitting_fault, fitting_short, fitting_ok}
