@@ -29,6 +29,10 @@ too_large costs e = nat_le costs_end (at costs e)
 unfoldable pub large_refused : ℕ → List ℕ → Option Refusal
 large_refused m costs = cond (some m (too_large costs)) (Some (Amount (first m (too_large costs)))) None
 
+-- fewer than m costs are refused
+unfoldable pub few_refused : ℕ → List ℕ → Option Refusal
+few_refused m costs = cond (nat_lt (length costs) m) (Some (Short TheCosts)) None
+
 -- what is wrong with the costs of m parts: there are too few, or one is too large
 unfoldable pub costs_refused : ℕ → List ℕ → Option Refusal
 costs_refused m costs = cond (nat_lt (length costs) m) (Some (Short TheCosts)) (large_refused m costs)
