@@ -9,7 +9,7 @@ ghost use Rattle.share.specs.Scale.{scaled};
 ghost use Rattle.share.specs.Weight.{once};
 
 use crate::costs::{check_costs, check_large};
-use crate::scale::scale_of;
+use crate::year::Year;
 use line::line::Line;
 use line::names::{Farm, Part};
 use line::refusal::{Lent, Refusal};
@@ -53,7 +53,7 @@ pub fn shares(line: &Line, costs: &[u64], row: &mut [u64]) -> Result<Option<u64>
         return Err(Refusal::Short(Lent::Accounts));
     }
     check_costs(costs, line.size.parts)?;
-    let Some(scale) = scale_of(line, costs) else {
+    let Some(scale) = Year::new(line, costs)?.scale() else {
         return Ok(None);
     };
     add_up(line, costs, scale, row);
@@ -87,7 +87,7 @@ pub fn share_of(line: &Line, costs: &[u64], farm: Farm) -> Result<Option<Fractio
         return Err(Refusal::Unknown(farm.0 as usize));
     }
     check_large(costs, line.size.parts)?;
-    let Some(scale) = scale_of(line, costs) else {
+    let Some(scale) = Year::new(line, costs)?.scale() else {
         return Ok(None);
     };
     Ok(Fraction::new(due_of(line, costs, scale, farm), scale))
