@@ -41,6 +41,10 @@ costs_refused m costs = cond (nat_lt (length costs) m) (Some (Short TheCosts)) (
 unfoldable pub shares_refused : Line → List ℕ → ℕ → Option Refusal
 shares_refused l costs lent = cond (nat_lt lent l.farms) (Some (Short Accounts)) (costs_refused l.parts costs)
 
+-- a farm of a year: there is no such farm, or a cost is too large
+unfoldable pub known_refused : Line → List ℕ → ℕ → Option Refusal
+known_refused l costs i = cond (nat_le l.farms i) (Some (Unknown i)) (large_refused l.parts costs)
+
 -- a farm's share: there are too few costs, or no such farm, or a cost is too large
 unfoldable pub farm_refused : Line → List ℕ → ℕ → Option Refusal
 farm_refused l costs i =
