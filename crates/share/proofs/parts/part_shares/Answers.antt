@@ -1,4 +1,4 @@
-use Rattle.std.proofs.Common.{length, sym, ◌∙◌, subst₂, Ok, arith}
+use Rattle.std.proofs.Common.{sym, ◌∙◌, subst₂, arith}
 use Rattle.number.proofs.Fractions.{same_sym, ◌then◌}
 use Rattle.line.specs.Held.{held}
 use Rattle.share.specs.Answer.{at, few_refused, known_refused, parts_refused, Rows}

@@ -1,4 +1,4 @@
-use Rattle.std.proofs.Common.{◌<◌, None, Ok, sym, ◌∙◌, subst₂, arith}
+use Rattle.std.proofs.Common.{None, Ok, sym, ◌∙◌, subst₂, arith}
 use Rattle.line.specs.Held.{held}
 use Rattle.share.specs.Answer.{at, few_refused, known_refused, farm_refused, ShareAnswer}
 use Rattle.share.specs.Asked.{Asked}

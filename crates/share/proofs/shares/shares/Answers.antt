@@ -1,4 +1,4 @@
-use Rattle.std.proofs.Common.{◌≡◌, ◌++◌, length, drop, None, Some, refl, sym, ap, ◌∙◌, subst, subst₂, arith}
+use Rattle.std.proofs.Common.{◌++◌, drop, None, Some, refl, sym, ap, ◌∙◌, subst₂, arith}
 use Rattle.std.proofs.lemmas.List.{length-take-le}
 use Rattle.line.specs.Held.{held}
 use Rattle.share.specs.Answer.{at, few_refused, costs_refused, shares_refused, OverScale}

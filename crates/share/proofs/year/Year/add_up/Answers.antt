@@ -1,4 +1,4 @@
-use Rattle.std.proofs.Common.{◌≡◌, ℕ, ◌+◌, ◌*◌, ◌/◌, ◌^◌, ◌<◌, List, rules, sym, refl, ap, ◌∙◌, subst, arith}
+use Rattle.std.proofs.Common.{ℕ, ◌+◌, ◌*◌, ◌/◌, ◌^◌, ◌<◌, List, rules, sym, refl, ap, ◌∙◌, subst, arith}
 use mir.Facts.{Fits-of_lt}
 use Rattle.line.specs.Held.{held}
 use Rattle.line.specs.Limits.{most_farms, costs_end}

@@ -1,4 +1,4 @@
-use Rattle.std.proofs.Common.{◌≡◌, ◌+◌, rules, sym, ap, ◌∙◌, arith}
+use Rattle.std.proofs.Common.{◌+◌, rules, sym, ap, ◌∙◌, arith}
 use Rattle.line.specs.Held.{held}
 use Rattle.share.proofs.Along.{along_start, along_turn, along_end}
 use Rattle.share.proofs.Dues.{owed, owed_small, each_small, owed_used, owed_unused}

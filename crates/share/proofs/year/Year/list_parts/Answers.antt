@@ -1,4 +1,4 @@
-use Rattle.std.proofs.Common.{◌≡◌, ◌+◌, ◌<◌, ◌≤◌, false, ◌&&◌, ltb, length, rules, sym, ◌∙◌, subst, arith}
+use Rattle.std.proofs.Common.{◌≡◌, ◌+◌, ◌<◌, false, ◌&&◌, ltb, length, rules, sym, subst, arith}
 use Rattle.line.specs.Held.{held}
 use Rattle.share.specs.Answer.{at}
 use Rattle.share.proofs.Along.{along_start, along_turn, along_end}

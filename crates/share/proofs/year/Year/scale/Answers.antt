@@ -1,10 +1,10 @@
-use Rattle.std.proofs.Common.{◌≡◌, ◌+◌, ◌<◌, ◌≤◌, sym, subst, ◌∙◌, arith, rules}
+use Rattle.std.proofs.Common.{sym, subst, arith, rules}
 use Rattle.number.specs.Divisors.{Least}
 use Rattle.line.specs.Held.{held}
 use Rattle.share.specs.Answer.{at}
 use Rattle.share.specs.Least.{LeastScale}
 use Rattle.share.specs.Limits.{scale_end}
-use Rattle.share.proofs.Along.{next_part, along_start, along_turn, along_end}
+use Rattle.share.proofs.Along.{along_start, along_turn, along_end}
 use Rattle.share.proofs.Leasts.{least_none, least_free, least_more, least_large}
 use Rattle.share.proofs.year.Year.scale.Goals as goal
 
