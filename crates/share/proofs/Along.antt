@@ -28,9 +28,9 @@ pub record Turn (parts : ℕ) (costs : List ℕ) (s t : Zip (Range ℕ) (Iter �
   pub next : next_part t ≡ e + 1
   pub along : Along parts costs t
 
-module _ (parts : ℕ) (costs : List ℕ) (s t : Zip (Range ℕ) (Iter ℕ)) (along : Along parts costs s) where
-  pub along_turn : (e : ℕ) (x : Bor ℕ) → zips nat_range_steps fronts s (Some (e, x)) t → Turn parts costs s t e x.now
-  along_turn e x step =
+module _ {parts : ℕ} {costs : List ℕ} {s : Zip (Range ℕ) (Iter ℕ)} (along : Along parts costs s) (t : Zip (Range ℕ) (Iter ℕ)) where
+  pub along_turn : {e : ℕ} (x : Bor ℕ) → zips nat_range_steps fronts s (Some (e, x)) t → Turn parts costs s t e x.now
+  along_turn {e = e} x step =
       let left : drop (next_part s) costs ≡ x.now ∷ iter_rest (zip_second t) = sym along.left ∙ step.1 in
       let next : next_part t ≡ e + 1 = omega (arith, step.0.1.1, step.0.1.2) in
       record {

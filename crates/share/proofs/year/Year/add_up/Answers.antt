@@ -28,7 +28,7 @@ both_small x scale u y h s c = omega (arith, each_small scale u y s c)
 pub overflow_mul-each : goal.overflow_mul-each
 overflow_mul-each c =
     let year = c.args.self.now in
-    let turn = along_turn year.line.now.size.parts year.costs.now c.loop-e.e-iterator c.next.new.self c.loop-e.invariant.1 c.in-Some.e c.in-Some.cost c.in-Some.ensures.steps in
+    let turn = along_turn c.loop-e.invariant.1 c.next.new.self c.in-Some.cost c.in-Some.ensures.steps in
     Fits-of_lt (word_small c.args.scale _ c.in-Some.cost.now c.requires.asked.below (omega (arith, turn.cost, c.requires.asked.small c.in-Some.e turn.part)))
 
 pub overflow_cast-i : goal.overflow_cast-i
@@ -41,7 +41,7 @@ overflow_add-due c =
     let l = held year.line.now in
     let i = c.loop-i.i in
     let e = c.in-Some.e in
-    let turn = along_turn l.parts year.costs.now c.loop-e.e-iterator c.next.new.self c.loop-e.invariant.1 e c.in-Some.cost c.in-Some.ensures.steps in
+    let turn = along_turn c.loop-e.invariant.1 c.next.new.self c.in-Some.cost c.in-Some.ensures.steps in
     let member : i < l.farms = omega (arith, c.requires.room) in
     let here = c.loop-i.invariant.after i (omega arith) member in
     let low : at c.loop-i.row i < 2 ^ 63 = omega (arith, here, owed_small l c.args.scale year.costs.now c.requires.asked year.line.now.used year.line.now.parts.1 i e member (omega (arith, turn.part))) in
@@ -53,7 +53,7 @@ loop-i-preserved c =
     let l = held year.line.now in
     let i = c.loop-i.i in
     let e = c.in-Some.e in
-    let turn = along_turn l.parts year.costs.now c.loop-e.e-iterator c.next.new.self c.loop-e.invariant.1 e c.in-Some.cost c.in-Some.ensures.steps in
+    let turn = along_turn c.loop-e.invariant.1 c.next.new.self c.in-Some.cost c.in-Some.ensures.steps in
     let P : List ℕ → Type 0 = λ row. Halfway l c.args.scale year.costs.now row (i + 1) e in
     let here = c.loop-i.invariant.after i (omega arith) (omega (arith, c.requires.room)) in
     elim c.if-uses.branch [
@@ -69,19 +69,19 @@ pub loop-i-init : goal.loop-i-init
 loop-i-init c =
     let year = c.args.self.now in
     let l = held year.line.now in
-    let turn = along_turn l.parts year.costs.now c.loop-e.e-iterator c.next.new.self c.loop-e.invariant.1 c.in-Some.e c.in-Some.cost c.in-Some.ensures.steps in
+    let turn = along_turn c.loop-e.invariant.1 c.next.new.self c.in-Some.cost c.in-Some.ensures.steps in
     record { before = λ k h. absurd (omega arith); after = λ k h g. c.loop-e.invariant.2 k g ∙ ap (owed l c.args.scale year.costs.now k) (sym turn.here) }
 
 pub loop-e-preserved : goal.loop-e-preserved
 loop-e-preserved c =
     let year = c.args.self.now in
     let l = held year.line.now in
-    let turn = along_turn l.parts year.costs.now c.loop-e.e-iterator c.next.new.self c.loop-e.invariant.1 c.in-Some.e c.in-Some.cost c.in-Some.ensures.steps in
+    let turn = along_turn c.loop-e.invariant.1 c.next.new.self c.in-Some.cost c.in-Some.ensures.steps in
     (((tt, tt), tt), turn.along, λ k h. c.loop-i.invariant.before k (omega (arith, c.requires.room)) ∙ ap (owed l c.args.scale year.costs.now k) (sym turn.next))
 
 pub returns : goal.returns
 returns c =
     let year = c.args.self.now in
     let l = held year.line.now in
-    let all = along_end l.parts year.costs.now c.loop-e.e-iterator c.next.new.self c.loop-e.invariant.1 year.enough c.in-None.ensures.steps in
+    let all = along_end c.loop-e.invariant.1 c.next.new.self year.enough c.in-None.ensures.steps in
     λ k h. c.loop-e.invariant.2 k h ∙ ap (owed l c.args.scale year.costs.now k) all

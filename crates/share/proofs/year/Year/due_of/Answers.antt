@@ -14,7 +14,7 @@ loop-e-init c =
 pub overflow_mul-due : goal.overflow_mul-due
 overflow_mul-due c =
     let year = c.args.self.now in
-    let turn = along_turn year.line.now.size.parts year.costs.now c.loop-e.e-iterator c.next.new.self c.loop-e.invariant.1 c.in-Some.e c.in-Some.cost c.in-Some.ensures.steps in
+    let turn = along_turn c.loop-e.invariant.1 c.next.new.self c.in-Some.cost c.in-Some.ensures.steps in
     omega (arith, each_small c.args.scale c.users.result c.in-Some.cost.now c.requires.asked.below (omega (arith, turn.cost, c.requires.asked.small c.in-Some.e turn.part)))
 
 pub overflow_add-due : goal.overflow_add-due
@@ -22,7 +22,7 @@ overflow_add-due c =
     let year = c.args.self.now in
     let l = held year.line.now in
     let e = c.in-Some.e in
-    let turn = along_turn l.parts year.costs.now c.loop-e.e-iterator c.next.new.self c.loop-e.invariant.1 e c.in-Some.cost c.in-Some.ensures.steps in
+    let turn = along_turn c.loop-e.invariant.1 c.next.new.self c.in-Some.cost c.in-Some.ensures.steps in
     omega (
       arith,
       owed_used l c.args.scale year.costs.now c.args.farm.0 e _ _ _ (sym c.if-uses.ensures) c.users.ensures turn.cost (c.loop-e.invariant.2 ∙ ap (owed l c.args.scale year.costs.now c.args.farm.0) (sym turn.here)),
@@ -34,7 +34,7 @@ loop-e-preserved-then-uses c =
     let year = c.args.self.now in
     let l = held year.line.now in
     let due = owed l c.args.scale year.costs.now c.args.farm.0 in
-    let turn = along_turn l.parts year.costs.now c.loop-e.e-iterator c.next.new.self c.loop-e.invariant.1 c.in-Some.e c.in-Some.cost c.in-Some.ensures.steps in (
+    let turn = along_turn c.loop-e.invariant.1 c.next.new.self c.in-Some.cost c.in-Some.ensures.steps in (
       ((tt, tt), tt),
       turn.along,
       owed_used l c.args.scale year.costs.now c.args.farm.0 c.in-Some.e _ _ _ (sym c.if-uses.ensures) c.users.ensures turn.cost (c.loop-e.invariant.2 ∙ ap due (sym turn.here)) ∙ ap due (sym turn.next),
@@ -45,7 +45,7 @@ loop-e-preserved c =
     let year = c.args.self.now in
     let l = held year.line.now in
     let due = owed l c.args.scale year.costs.now c.args.farm.0 in
-    let turn = along_turn l.parts year.costs.now c.loop-e.e-iterator c.next.new.self c.loop-e.invariant.1 c.in-Some.e c.in-Some.cost c.in-Some.ensures.steps in (
+    let turn = along_turn c.loop-e.invariant.1 c.next.new.self c.in-Some.cost c.in-Some.ensures.steps in (
       ((tt, tt), tt),
       turn.along,
       owed_unused l c.args.scale year.costs.now c.args.farm.0 c.in-Some.e _ (sym c.if-uses.ensures) (c.loop-e.invariant.2 ∙ ap due (sym turn.here)) ∙ ap due (sym turn.next),
@@ -55,4 +55,4 @@ pub returns : goal.returns
 returns c =
     let year = c.args.self.now in
     let l = held year.line.now in
-    c.loop-e.invariant.2 ∙ ap (owed l c.args.scale year.costs.now c.args.farm.0) (along_end l.parts year.costs.now c.loop-e.e-iterator c.next.new.self c.loop-e.invariant.1 year.enough c.in-None.ensures.steps)
+    c.loop-e.invariant.2 ∙ ap (owed l c.args.scale year.costs.now c.args.farm.0) (along_end c.loop-e.invariant.1 c.next.new.self year.enough c.in-None.ensures.steps)

@@ -17,7 +17,7 @@ loop-e-init c =
 pub offset_bounds-rows-k : goal.offset_bounds-rows-k
 offset_bounds-rows-k c =
     let year = c.args.self.now in
-    let turn = along_turn year.line.now.size.parts year.costs.now c.loop-e.e-iterator c.next.new.self c.loop-e.invariant.1 c.in-Some.e c.in-Some.cost c.in-Some.ensures.steps in
+    let turn = along_turn c.loop-e.invariant.1 c.next.new.self c.in-Some.cost c.in-Some.ensures.steps in
     omega (arith, c.requires, c.loop-e.invariant.2.most, turn.here, turn.part)
 
 pub loop-e-preserved-then-uses : goal.loop-e-preserved-then-uses
@@ -25,7 +25,7 @@ loop-e-preserved-then-uses c =
     let year = c.args.self.now in
     let l = held year.line.now in
     let rows = c.args.rows.now in
-    let turn = along_turn l.parts year.costs.now c.loop-e.e-iterator c.next.new.self c.loop-e.invariant.1 c.in-Some.e c.in-Some.cost c.in-Some.ensures.steps in
+    let turn = along_turn c.loop-e.invariant.1 c.next.new.self c.in-Some.cost c.in-Some.ensures.steps in
     let before = subst (Written l year.costs.now c.args.farm.0 rows c.loop-e.rows c.loop-e.k) (sym turn.here) c.loop-e.invariant.2 in
     let room : c.loop-e.k < length c.loop-e.rows = omega (arith, c.requires, before.most, turn.part) in
     let after = written_more l year.costs.now c.args.farm.0 rows c.loop-e.rows c.loop-e.k c.in-Some.e _ _ room (sym c.if-uses.ensures) c.if-cost-gt0.true turn.cost c.users.ensures before in
@@ -36,7 +36,7 @@ loop-e-preserved c =
     let year = c.args.self.now in
     let l = held year.line.now in
     let rows = c.args.rows.now in
-    let turn = along_turn l.parts year.costs.now c.loop-e.e-iterator c.next.new.self c.loop-e.invariant.1 c.in-Some.e c.in-Some.cost c.in-Some.ensures.steps in
+    let turn = along_turn c.loop-e.invariant.1 c.next.new.self c.in-Some.cost c.in-Some.ensures.steps in
     let before = subst (Written l year.costs.now c.args.farm.0 rows c.loop-e.rows c.loop-e.k) (sym turn.here) c.loop-e.invariant.2 in
     let free : (l.uses c.args.farm.0 c.in-Some.e && ltb 0 (at year.costs.now c.in-Some.e)) ≡ false =
     elim c.else-cost-gt0.branch [
@@ -49,6 +49,6 @@ pub returns : goal.returns
 returns c =
     let year = c.args.self.now in
     let l = held year.line.now in
-    let all = along_end l.parts year.costs.now c.loop-e.e-iterator c.next.new.self c.loop-e.invariant.1 year.enough c.in-None.ensures.steps in
+    let all = along_end c.loop-e.invariant.1 c.next.new.self year.enough c.in-None.ensures.steps in
     let w = subst (Written l year.costs.now c.args.farm.0 c.args.rows.now c.loop-e.rows c.loop-e.k) all c.loop-e.invariant.2 in
     record { front = w.front; count = w.count; rest = w.rest }

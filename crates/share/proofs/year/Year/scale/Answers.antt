@@ -23,7 +23,7 @@ returns-in_err-scale c =
     let costs = c.args.self.now.costs.now in
     let e = c.in-Some.e in
     let s = c.loop-e.scale in
-    let turn = along_turn l.parts costs c.loop-e.e-iterator c.next.new.self c.loop-e.invariant.1 e c.in-Some.cost c.in-Some.ensures.steps in
+    let turn = along_turn c.loop-e.invariant.1 c.next.new.self c.in-Some.cost c.in-Some.ensures.steps in
     simp c.from_residual.ensures (
     least_large l (at costs) e s scale_end c.args.self.now.line.now.used turn.part (omega (arith, turn.cost, c.if-cost-gt0.true))
     (subst (λ k. LeastScale l (at costs) k s) (sym turn.here) c.loop-e.invariant.2)
@@ -37,7 +37,7 @@ loop-e-preserved-then-cost-gt0 c =
     let costs = c.args.self.now.costs.now in
     let e = c.in-Some.e in
     let s = c.loop-e.scale in
-    let turn = along_turn l.parts costs c.loop-e.e-iterator c.next.new.self c.loop-e.invariant.1 e c.in-Some.cost c.in-Some.ensures.steps in
+    let turn = along_turn c.loop-e.invariant.1 c.next.new.self c.in-Some.cost c.in-Some.ensures.steps in
     let new = c.in_ok-scale.ensures in
     let before = subst (λ k. LeastScale l (at costs) k s) (sym turn.here) c.loop-e.invariant.2 in
     let after = least_more l (at costs) e s c.in_ok-scale.scale (omega (arith, turn.cost, c.if-cost-gt0.true)) (subst (λ u. Least s u c.in_ok-scale.scale) c.users.ensures new.0) before in
@@ -49,7 +49,7 @@ loop-e-preserved c =
     let costs = c.args.self.now.costs.now in
     let e = c.in-Some.e in
     let s = c.loop-e.scale in
-    let turn = along_turn l.parts costs c.loop-e.e-iterator c.next.new.self c.loop-e.invariant.1 e c.in-Some.cost c.in-Some.ensures.steps in
+    let turn = along_turn c.loop-e.invariant.1 c.next.new.self c.in-Some.cost c.in-Some.ensures.steps in
     let before = subst (λ k. LeastScale l (at costs) k s) (sym turn.here) c.loop-e.invariant.2 in
     let after = least_free l (at costs) e s (omega (arith, turn.cost, c.if-cost-gt0.false)) before in
     (((tt, tt), tt), turn.along, subst (λ k. LeastScale l (at costs) k s) (sym turn.next) after, c.loop-e.invariant.3)
@@ -58,5 +58,5 @@ pub returns : goal.returns
 returns c =
     let l = held c.args.self.now.line.now in
     let costs = c.args.self.now.costs.now in
-    let all = along_end l.parts costs c.loop-e.e-iterator c.next.new.self c.loop-e.invariant.1 c.args.self.now.enough c.in-None.ensures.steps in
+    let all = along_end c.loop-e.invariant.1 c.next.new.self c.args.self.now.enough c.in-None.ensures.steps in
     (subst (λ k. LeastScale l (at costs) k c.loop-e.scale) all c.loop-e.invariant.2, c.loop-e.invariant.3)
