@@ -2,7 +2,7 @@
 use Rattle.std.proofs.Common.{◌≡◌, ℕ, ◌<◌, ◌≤◌, List, length, get_or, Some, None, Option, ap, ◌∙◌, arith}
 use Rattle.std.proofs.iter.Yields.{fronts, nat_range_steps}
 use Rattle.std.proofs.lemmas.Iterator.{YieldsList, YieldsList-from_range, YieldsList-from_slice, YieldsList-from_zip, zips}
-use Rattle.std.proofs.lemmas.Iterator.Consumers.{YieldsList-turn, YieldsList-end}
+use Rattle.std.proofs.lemmas.Iterator.Consumers.{YieldsList-at, YieldsList-turn, YieldsList-end}
 use Rattle.std.proofs.lemmas.List.{get_or_default}
 use Rattle.std.proofs.lemmas.List.FromFn.{length-range_with_len, get_or-range_with_len}
 use Rattle.std.proofs.lemmas.Slice.Zip.{length-zip, get_or-zip}
@@ -25,11 +25,11 @@ module _ (n : ℕ) (xs : List ℕ) (long : n ≤ length xs) where
   many : length pairs ≡ n
   many = omega (arith, length-zip (range_with_len 0 n) xs, length-range_with_len 0 n)
 
-  module _ (s : Zip (Range ℕ) (Iter ℕ)) (first : zip_first s ≡ record { start = 0; end = n }) (second : iter_rest (zip_second s) ≡ xs) where
+  module _ {s z : Zip (Range ℕ) (Iter ℕ)} (made : s ≡ z) (first : zip_first z ≡ record { start = 0; end = n }) (second : iter_rest (zip_second z) ≡ xs) where
     road : YieldsList steps (λ p. (p.0, p.1.now)) s pairs
-    road = YieldsList-from_zip (YieldsList-from_range 0 n n first (omega arith)) (YieldsList-from_slice xs second)
+    road = YieldsList-at made (YieldsList-from_zip (YieldsList-from_range 0 n n first (omega arith)) (YieldsList-from_slice xs second))
 
-    module _ (ys : List (ℕ × Bor ℕ)) (t u : Zip (Range ℕ) (Iter ℕ)) (so-far : Yields steps s ys t) (r : Option (ℕ × Bor ℕ)) (next : steps t r u) where
+    module _ (ys : List (ℕ × Bor ℕ)) (t u : Zip (Range ℕ) (Iter ℕ)) (so-far : Yields steps s ys t) {r : Option (ℕ × Bor ℕ)} (next : steps t r u) where
       -- this turn's number, and what stands at it
       pub numbered_turn : (p : ℕ × Bor ℕ) → r ≡ Some p → (length ys < n) × (p.0 ≡ length ys) × (p.1.now ≡ get_or xs (length ys) 0)
       numbered_turn p is =

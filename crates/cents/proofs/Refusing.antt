@@ -1,5 +1,5 @@
 -- What is refused, test by test.
-use Rattle.std.proofs.Common.{◌≡◌, ℕ, ◌<◌, ◌≤◌, ltb, ◌⊎◌, List, length, Some, None, Option, sym, refl, inl, inr}
+use Rattle.std.proofs.Common.{◌≡◌, ℕ, ◌<◌, ◌≤◌, ltb, ◌⊎◌, List, length, Some, Option, refl, inl, inr}
 use Rattle.std.proofs.lemmas.Bool.{lt-ltb, le-ltb, or_left, or_right, or_from}
 use Rattle.std.specs.Option.{option_map, option_or}
 use Rattle.number.specs.First.{found}

@@ -19,9 +19,9 @@ pub(crate) fn list_counts(line: &Line, part: Part, odd: &[u64]) -> ArrayVec<u64,
     ensures { Listed (λ i. (held line.now).uses i part.0) (at odd.now) line.now.size.farms result.items }
 {
     let mut counts = ArrayVec::new();
-    for i in 0..line.size.farms {
+    for (i, count) in (0..line.size.farms).zip(odd) {
         if line.uses(Farm(i), part) {
-            counts.push(odd[i as usize]);
+            counts.push(*count);
         }
     }
     counts

@@ -1,21 +1,18 @@
-use Rattle.std.proofs.Common.{◌≡◌, ℕ, ◌<◌, ◌≤◌, min, nat_le, map, replicate, ◌++◌, List, length, take, drop, position, Some, None, Option, sym, refl, ap, ◌∙◌, subst, arith}
-use Rattle.std.specs.Option.{option_map}
-use Rattle.std.proofs.lemmas.List.{get_or_append_left, get_or-take, get_or-replicate, length-take-le, drop_at}
+use Rattle.std.proofs.Common.{◌≡◌, ℕ, ◌<◌, min, map, ◌++◌, length, drop, Some, None, sym, ap, ◌∙◌, arith}
+use Rattle.std.proofs.lemmas.List.{get_or-take, get_or-replicate, length-take-le}
 use Rattle.std.proofs.lemmas.Result.{err_from_is_err_and}
-use Rattle.number.specs.First.{found, some}
-use Rattle.number.proofs.Positions.{position_found, found_none}
+use Rattle.number.proofs.Positions.{found_none}
 use Rattle.number.proofs.Sums.{sum_same}
-use Rattle.line.specs.declared.refusal.Refusal.{Refusal}
 use Rattle.line.specs.Held.{held}
 use Rattle.line.specs.Limits.{most_farms, most_parts, costs_end}
 use Rattle.share.specs.Answer.{at}
 use Rattle.share.specs.Weight.{once}
 use Rattle.share.proofs.Refusing.{costs_fine}
 use Rattle.share.proofs.Weights.{once_fits_lem}
-use Rattle.cents.specs.Answer.{odds_then, past, count_refusal}
+use Rattle.cents.specs.Answer.{odds_then, past}
 use Rattle.cents.specs.Closing.{charged}
 use Rattle.cents.specs.Limits.{counts_end}
-use Rattle.cents.proofs.Capped.{Front, Written, capped_front, copied, found_capped, odds_capped, charged_capped}
+use Rattle.cents.proofs.Capped.{capped_front, copied, found_capped, odds_capped, charged_capped}
 use Rattle.cents.proofs.Closing.{closing_adds_up_lem}
 use Rattle.cents.proofs.Refusing.{counts_found, split_short, split_on}
 use Rattle.cents.proofs.Turns.{due_small}

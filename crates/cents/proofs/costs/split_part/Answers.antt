@@ -7,7 +7,7 @@ use Rattle.line.specs.Held.{held}
 use Rattle.line.specs.Line.{users}
 use Rattle.share.specs.Answer.{at}
 use Rattle.cents.proofs.Chosen.{chosen-pays, left_first, left_user, left_other, chosen_next}
-use Rattle.cents.proofs.Turns.{Turned, halfway_none, halfway_user, halfway_other, halfway_at, halfway_all}
+use Rattle.cents.proofs.Turns.{halfway_none, halfway_user, halfway_other, halfway_at, halfway_all}
 use Rattle.cents.proofs.costs.split_part.Goals as goal
 use Rattle.cents.proofs.costs.split_part.Goals.{then-uses, else-uses}
 
