@@ -65,13 +65,6 @@ loop-i-preserved c =
           (halfway_set l c.args.scale year.costs.now _ i e _ (omega arith) (owed_unused l c.args.scale year.costs.now i e _ (sym c.uses.ensures ∙ w.if-uses.false) here) c.loop-i.invariant)
     ]
 
-pub loop-i-init : goal.loop-i-init
-loop-i-init c =
-    let year = c.args.self.now in
-    let l = held year.line.now in
-    let turn = along_turn c.loop-e.invariant.1 c.next.new.self c.in-Some.cost c.in-Some.ensures.steps in
-    record { before = λ k h. absurd (omega arith); after = λ k h g. c.loop-e.invariant.2 k g ∙ ap (owed l c.args.scale year.costs.now k) (sym turn.here) }
-
 pub loop-e-preserved : goal.loop-e-preserved
 loop-e-preserved c =
     let year = c.args.self.now in

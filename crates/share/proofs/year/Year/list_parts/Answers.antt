@@ -14,12 +14,6 @@ loop-e-init c =
     let start = along_start l.parts year.costs.now _ _ c.into_iter-e-iterator.ensures.into_iter_gives c.zip-e-items.ensures.first (search rules) in
     (((tt, tt), tt), start.0, subst (Written l year.costs.now c.args.farm.0 rows rows 0) (sym start.1) (written_none l year.costs.now c.args.farm.0 rows))
 
-pub offset_bounds-rows-k : goal.offset_bounds-rows-k
-offset_bounds-rows-k c =
-    let year = c.args.self.now in
-    let turn = along_turn c.loop-e.invariant.1 c.next.new.self c.in-Some.cost c.in-Some.ensures.steps in
-    omega (arith, c.requires, c.loop-e.invariant.2.most, turn.here, turn.part)
-
 pub loop-e-preserved-then-uses : goal.loop-e-preserved-then-uses
 loop-e-preserved-then-uses c =
     let year = c.args.self.now in
