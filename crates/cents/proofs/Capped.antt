@@ -15,6 +15,7 @@ use Rattle.share.specs.Weight.{Weights, once}
 use Rattle.cents.specs.Answer.{odds_then, past}
 use Rattle.cents.specs.Closing.{odds, charged}
 use Rattle.cents.specs.Limits.{counts_end}
+use Rattle.cents.specs.declared.limits.TheConstants.{COUNTS_END}
 use Rattle.cents.specs.Rank.{before, rank}
 use Rattle.cents.specs.Split.{broken, rest, pays_odd, odd_cent, odd_after}
 use Rattle.cents.proofs.Closing.{odds_same, charged_same}
@@ -62,13 +63,15 @@ pub record Front (n : ℕ) (odd counts : List ℕ) : Type 0 where
   pub long : length counts ≡ n
   pub capped : (i : ℕ) → i < n → at counts i ≡ min (at odd i) counts_end
 
-pub capped_front : (n : ℕ) (odd counts : List ℕ) → counts ≡ map (λ count. min count counts_end) (take n odd) → n ≤ length odd → Front n odd counts
-capped_front n odd counts is enough =
+pub capped_front : (n : ℕ) (odd copy counts : List ℕ) → copy ≡ take n odd → counts ≡ map (λ count. min count COUNTS_END) copy → n ≤ length odd → Front n odd counts
+unfolding counts_end
+capped_front n odd copy counts from is enough =
     let cap : ℕ → ℕ = λ count. min count counts_end in
+    let front = is ∙ ap (map cap) from in
     let long = length-take-le n odd enough in
     record {
-      long = ap length is ∙ length-map (take n odd) cap ∙ long;
-      capped = λ i h. ap (λ xs. at xs i) is ∙ get_or-map cap (take n odd) i 0 0 (omega (arith, long)) ∙ ap cap (get_or-take n odd i 0 h);
+      long = ap length front ∙ length-map (take n odd) cap ∙ long;
+      capped = λ i h. ap (λ xs. at xs i) front ∙ get_or-map cap (take n odd) i 0 0 (omega (arith, long)) ∙ ap cap (get_or-take n odd i 0 h);
     }
 
 -- numbers written over the first n
@@ -92,7 +95,8 @@ module _ (l : Line) (costs odd counts : List ℕ) (front : Front l.farms odd cou
       same x y (inr large) = le-leb counts_end x large.0 ∙ sym (le-leb counts_end y large.1)
 
   -- the first count that is too large is that of the first farm whose count comes to be so
-  pub found_capped : (then : List ℕ) → length then ≡ l.farms → ((i : ℕ) → i < l.farms → at then i ≡ odds_then l costs counts i) → position (leb counts_end) then ≡ found l.farms (past (odds_then l costs odd))
+  pub found_capped : (then : List ℕ) → length then ≡ l.farms → ((i : ℕ) → i < l.farms → at then i ≡ odds_then l costs counts i) → position (leb COUNTS_END) then ≡ found l.farms (past (odds_then l costs odd))
+  unfolding counts_end
   found_capped then long split =
       position_found (leb counts_end) then l.farms _ long (λ k d h. ap (leb counts_end) (get_or_default then k d 0 (omega arith) ∙ split k h) ∙ past_like k h)
 

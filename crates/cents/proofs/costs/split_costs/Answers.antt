@@ -1,4 +1,4 @@
-use Rattle.std.proofs.Common.{◌≡◌, ℕ, ◌<◌, min, map, ◌++◌, length, drop, Some, None, sym, ap, ◌∙◌, arith}
+use Rattle.std.proofs.Common.{◌≡◌, ℕ, ◌<◌, ◌++◌, length, drop, Some, None, sym, ◌∙◌, arith}
 use Rattle.std.proofs.lemmas.List.{get_or-take, get_or-replicate, length-take-le}
 use Rattle.std.proofs.lemmas.Result.{err_from_is_err_and}
 use Rattle.number.proofs.Positions.{found_none}
@@ -11,10 +11,9 @@ use Rattle.share.proofs.Refusing.{costs_fine}
 use Rattle.share.proofs.Weights.{once_fits_lem}
 use Rattle.cents.specs.Answer.{odds_then, past}
 use Rattle.cents.specs.Closing.{charged}
-use Rattle.cents.specs.Limits.{counts_end}
 use Rattle.cents.proofs.Capped.{capped_front, copied, found_capped, odds_capped, charged_capped}
 use Rattle.cents.proofs.Closing.{closing_adds_up_lem}
-use Rattle.cents.proofs.Refusing.{counts_found, split_short, split_on}
+use Rattle.cents.proofs.Refusing.{split_short, split_on, split_counts}
 use Rattle.cents.proofs.Turns.{due_small}
 use Rattle.cents.proofs.costs.split_costs.Goals as goal
 
@@ -47,13 +46,12 @@ unfolding most_farms
 copy_from_slice-requires c = length-take-le c.args.line.now.size.farms _ c.args.line.now.farms.1 ∙ sym (length-take-le c.args.line.now.size.farms c.args.odd.now c.if-odd-farms.false)
 
 pub split_parts-requires-clause-asked : goal.split_parts-requires-clause-asked
-unfolding counts_end
 split_parts-requires-clause-asked c =
     let line = c.args.line.now in
     let n = line.size.farms in
     let odd = c.args.odd.now in
     let fine = costs_fine line.size.parts c.args.costs.now (sym c.in_ok-check_costs.ensures) in
-    let front = capped_front n odd c.cap.new.counts (c.cap.ensures ∙ ap (map (λ count. min count counts_end)) c.copy_from_slice.ensures.after) c.if-odd-farms.false in
+    let front = capped_front n odd c.copy_from_slice.new.self c.cap.new.counts c.copy_from_slice.ensures.after c.cap.ensures c.if-odd-farms.false in
     record {
       enough = fine.0;
       small = fine.1;
@@ -66,33 +64,29 @@ unfolding most_farms
 split_parts-requires-clause-clear c i h = get_or-take c.args.line.now.size.farms _ i 0 h ∙ get_or-replicate most_farms i 0 0 (omega (arith, c.args.line.now.farms.1))
 
 pub returns-in-Some-clause-refused : goal.returns-in-Some-clause-refused
-unfolding counts_end
 returns-in-Some-clause-refused c =
     let line = c.args.line.now in
     let l = held line in
     let n = line.size.farms in
     let costs = c.args.costs.now in
     let odd = c.args.odd.now in
-    let front = capped_front n odd c.cap.new.counts (c.cap.ensures ∙ ap (map (λ count. min count counts_end)) c.copy_from_slice.ensures.after) c.if-odd-farms.false in
-    let long : length c.split_parts.new.odd ≡ n = c.split_parts.auto.odd ∙ front.long in
-    let found = found_capped l costs odd c.cap.new.counts front c.split_parts.new.odd long c.split_parts.ensures.counts in
-    counts_found l costs odd (Some c.in-Some.at) (c.in-Some.ensures ∙ found) ∙ sym (split_on l costs odd (length c.args.sums.now) _ c.if-odd-farms.false c.if-sums-farms.false c.in_ok-check_costs.ensures)
+    let front = capped_front n odd c.copy_from_slice.new.self c.cap.new.counts c.copy_from_slice.ensures.after c.cap.ensures c.if-odd-farms.false in
+    let found = found_capped l costs odd c.cap.new.counts front c.split_parts.new.odd (c.split_parts.auto.odd ∙ front.long) c.split_parts.ensures.counts in
+    split_counts l costs odd (length c.args.sums.now) c.if-odd-farms.false c.if-sums-farms.false c.in_ok-check_costs.ensures (Some c.in-Some.at) (c.in-Some.ensures ∙ found)
 
 pub returns-clause-refused : goal.returns-clause-refused
-unfolding counts_end
 returns-clause-refused c =
     let line = c.args.line.now in
     let l = held line in
     let n = line.size.farms in
     let costs = c.args.costs.now in
     let odd = c.args.odd.now in
-    let front = capped_front n odd c.cap.new.counts (c.cap.ensures ∙ ap (map (λ count. min count counts_end)) c.copy_from_slice.ensures.after) c.if-odd-farms.false in
-    let long : length c.split_parts.new.odd ≡ n = c.split_parts.auto.odd ∙ front.long in
-    let found = found_capped l costs odd c.cap.new.counts front c.split_parts.new.odd long c.split_parts.ensures.counts in
-    counts_found l costs odd None (c.in_default.ensures ∙ found) ∙ sym (split_on l costs odd (length c.args.sums.now) _ c.if-odd-farms.false c.if-sums-farms.false c.in_ok-check_costs.ensures)
+    let front = capped_front n odd c.copy_from_slice.new.self c.cap.new.counts c.copy_from_slice.ensures.after c.cap.ensures c.if-odd-farms.false in
+    let found = found_capped l costs odd c.cap.new.counts front c.split_parts.new.odd (c.split_parts.auto.odd ∙ front.long) c.split_parts.ensures.counts in
+    split_counts l costs odd (length c.args.sums.now) c.if-odd-farms.false c.if-sums-farms.false c.in_ok-check_costs.ensures None (c.in_default.ensures ∙ found)
 
 pub returns-clause-answer : goal.returns-clause-answer
-unfolding most_parts costs_end counts_end
+unfolding most_parts costs_end
 returns-clause-answer c =
     let line = c.args.line.now in
     let l = held line in
@@ -100,9 +94,8 @@ returns-clause-answer c =
     let costs = c.args.costs.now in
     let odd = c.args.odd.now in
     let counts = c.cap.new.counts in
-    let front = capped_front n odd counts (c.cap.ensures ∙ ap (map (λ count. min count counts_end)) c.copy_from_slice.ensures.after) c.if-odd-farms.false in
-    let long : length c.split_parts.new.odd ≡ n = c.split_parts.auto.odd ∙ front.long in
-    let found = found_capped l costs odd counts front c.split_parts.new.odd long c.split_parts.ensures.counts in
+    let front = capped_front n odd c.copy_from_slice.new.self counts c.copy_from_slice.ensures.after c.cap.ensures c.if-odd-farms.false in
+    let found = found_capped l costs odd counts front c.split_parts.new.odd (c.split_parts.auto.odd ∙ front.long) c.split_parts.ensures.counts in
     let none = found_none n (past (odds_then l costs odd)) (sym (c.in_default.ensures ∙ found)) in
     let fine = costs_fine line.size.parts costs (sym c.in_ok-check_costs.ensures) in
     let new-odd = copied n c.split_parts.new.odd odd c.copy_from_slice-2.new.self c.copy_from_slice-2.ensures.after (c.copy_from_slice-2.ensures.len ∙ length-take-le n odd c.if-odd-farms.false) in
