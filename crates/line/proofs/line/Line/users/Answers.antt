@@ -2,15 +2,12 @@ use Rattle.std.proofs.Common.{ℕ, ◌*◌, List, length, sym, ap, ◌∙◌, ar
 use Rattle.number.specs.Sum.{count}
 use Rattle.line.specs.Limits.{most_farms}
 use Rattle.line.specs.Rows.{in_row, across, row}
-use Rattle.line.proofs.Rows.{row_room, row_whole, row_most}
+use Rattle.line.proofs.Rows.{row_whole, row_most}
 use Rattle.line.proofs.Users.{users_row, no_users}
 use Rattle.line.proofs.line.Line.users.Goals as goal
 
 pub returns-then-part-self : goal.returns-then-part-self
 returns-then-part-self c = sym (no_users 64 _ _ _ c.args.part.0 c.if-part-self.true)
-
-pub row_of-requires : goal.row_of-requires
-row_of-requires c = row_room _ _ c.row_words.result _ c.if-part-self.false (rw c.row_words.ensures c.args.self.now.room)
 
 pub count_row-requires : goal.count_row-requires
 unfolding most_farms
