@@ -11,4 +11,3 @@ mod Capped
 mod Refusing
 mod Counts
 mod Chosen
-mod Numbered

@@ -1,6 +1,7 @@
 pub mod Sums
 pub mod Firsts
 pub mod Positions
+pub mod Along
 pub mod Euclid
 pub mod Integers
 pub mod Fractions

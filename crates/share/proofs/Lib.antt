@@ -1,4 +1,3 @@
-pub mod Along
 pub mod Building
 pub mod Leasts
 pub mod Dues

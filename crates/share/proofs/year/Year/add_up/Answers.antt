@@ -4,7 +4,7 @@ use Rattle.line.specs.Held.{held}
 use Rattle.line.specs.Limits.{most_farms, costs_end}
 use Rattle.share.specs.Answer.{at}
 use Rattle.share.specs.Limits.{scale_end}
-use Rattle.share.proofs.Along.{along_start, along_turn, along_end}
+use Rattle.number.proofs.Along.{along_start, along_turn, along_end}
 use Rattle.share.proofs.Dues.{owed, owed_small, each_small, owed_used, owed_unused, Halfway, halfway_set}
 use Rattle.share.proofs.Scales.{due_none}
 use Rattle.share.proofs.year.Year.add_up.Goals as goal
@@ -29,7 +29,7 @@ pub overflow_mul-each : goal.overflow_mul-each
 overflow_mul-each c =
     let year = c.args.self.now in
     let turn = along_turn c.loop-e.invariant.1 c.next.new.self c.in-Some.cost c.in-Some.ensures.steps in
-    Fits-of_lt (word_small c.args.scale _ c.in-Some.cost.now c.requires.asked.below (omega (arith, turn.cost, c.requires.asked.small c.in-Some.e turn.part)))
+    Fits-of_lt (word_small c.args.scale _ c.in-Some.cost.now c.requires.asked.below (omega (arith, turn.item, c.requires.asked.small c.in-Some.e turn.below)))
 
 pub overflow_cast-i : goal.overflow_cast-i
 unfolding most_farms
@@ -44,8 +44,8 @@ overflow_add-due c =
     let turn = along_turn c.loop-e.invariant.1 c.next.new.self c.in-Some.cost c.in-Some.ensures.steps in
     let member : i < l.farms = omega (arith, c.requires.room) in
     let here = c.loop-i.invariant.after i (omega arith) member in
-    let low : at c.loop-i.row i < 2 ^ 63 = omega (arith, here, owed_small l c.args.scale year.costs.now c.requires.asked year.line.now.used year.line.now.parts.1 i e member (omega (arith, turn.part))) in
-    Fits-of_lt (both_small (at c.loop-i.row i) c.args.scale _ c.in-Some.cost.now low c.requires.asked.below (omega (arith, turn.cost, c.requires.asked.small e turn.part)))
+    let low : at c.loop-i.row i < 2 ^ 63 = omega (arith, here, owed_small l c.args.scale year.costs.now c.requires.asked year.line.now.used year.line.now.parts.1 i e member (omega (arith, turn.below))) in
+    Fits-of_lt (both_small (at c.loop-i.row i) c.args.scale _ c.in-Some.cost.now low c.requires.asked.below (omega (arith, turn.item, c.requires.asked.small e turn.below)))
 
 pub loop-i-preserved : goal.loop-i-preserved
 loop-i-preserved c =
@@ -59,7 +59,7 @@ loop-i-preserved c =
     elim c.if-uses.branch [
       | then-uses w ↦
           subst P (sym w.row-is)
-          (halfway_set l c.args.scale year.costs.now _ i e _ (omega arith) (owed_used l c.args.scale year.costs.now i e _ _ _ (sym c.uses.ensures ∙ w.if-uses.true) c.users.ensures turn.cost here) c.loop-i.invariant)
+          (halfway_set l c.args.scale year.costs.now _ i e _ (omega arith) (owed_used l c.args.scale year.costs.now i e _ _ _ (sym c.uses.ensures ∙ w.if-uses.true) c.users.ensures turn.item here) c.loop-i.invariant)
       | else-uses w ↦
           subst P (sym w.row-is)
           (halfway_set l c.args.scale year.costs.now _ i e _ (omega arith) (owed_unused l c.args.scale year.costs.now i e _ (sym c.uses.ensures ∙ w.if-uses.false) here) c.loop-i.invariant)

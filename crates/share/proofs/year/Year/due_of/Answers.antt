@@ -1,6 +1,6 @@
 use Rattle.std.proofs.Common.{◌+◌, rules, sym, ap, ◌∙◌, arith}
 use Rattle.line.specs.Held.{held}
-use Rattle.share.proofs.Along.{along_start, along_turn, along_end}
+use Rattle.number.proofs.Along.{along_start, along_turn, along_end}
 use Rattle.share.proofs.Dues.{owed, owed_small, each_small, owed_used, owed_unused}
 use Rattle.share.proofs.Scales.{due_none}
 use Rattle.share.proofs.year.Year.due_of.Goals as goal
@@ -15,7 +15,7 @@ pub overflow_mul-due : goal.overflow_mul-due
 overflow_mul-due c =
     let year = c.args.self.now in
     let turn = along_turn c.loop-e.invariant.1 c.next.new.self c.in-Some.cost c.in-Some.ensures.steps in
-    omega (arith, each_small c.args.scale c.users.result c.in-Some.cost.now c.requires.asked.below (omega (arith, turn.cost, c.requires.asked.small c.in-Some.e turn.part)))
+    omega (arith, each_small c.args.scale c.users.result c.in-Some.cost.now c.requires.asked.below (omega (arith, turn.item, c.requires.asked.small c.in-Some.e turn.below)))
 
 pub overflow_add-due : goal.overflow_add-due
 overflow_add-due c =
@@ -25,8 +25,8 @@ overflow_add-due c =
     let turn = along_turn c.loop-e.invariant.1 c.next.new.self c.in-Some.cost c.in-Some.ensures.steps in
     omega (
       arith,
-      owed_used l c.args.scale year.costs.now c.args.farm.0 e _ _ _ (sym c.if-uses.ensures) c.users.ensures turn.cost (c.loop-e.invariant.2 ∙ ap (owed l c.args.scale year.costs.now c.args.farm.0) (sym turn.here)),
-      owed_small l c.args.scale year.costs.now c.requires.asked year.line.now.used year.line.now.parts.1 c.args.farm.0 (e + 1) c.requires.member (omega (arith, turn.part)),
+      owed_used l c.args.scale year.costs.now c.args.farm.0 e _ _ _ (sym c.if-uses.ensures) c.users.ensures turn.item (c.loop-e.invariant.2 ∙ ap (owed l c.args.scale year.costs.now c.args.farm.0) (sym turn.here)),
+      owed_small l c.args.scale year.costs.now c.requires.asked year.line.now.used year.line.now.parts.1 c.args.farm.0 (e + 1) c.requires.member (omega (arith, turn.below)),
     )
 
 pub loop-e-preserved-then-uses : goal.loop-e-preserved-then-uses
@@ -37,7 +37,7 @@ loop-e-preserved-then-uses c =
     let turn = along_turn c.loop-e.invariant.1 c.next.new.self c.in-Some.cost c.in-Some.ensures.steps in (
       ((tt, tt), tt),
       turn.along,
-      owed_used l c.args.scale year.costs.now c.args.farm.0 c.in-Some.e _ _ _ (sym c.if-uses.ensures) c.users.ensures turn.cost (c.loop-e.invariant.2 ∙ ap due (sym turn.here)) ∙ ap due (sym turn.next),
+      owed_used l c.args.scale year.costs.now c.args.farm.0 c.in-Some.e _ _ _ (sym c.if-uses.ensures) c.users.ensures turn.item (c.loop-e.invariant.2 ∙ ap due (sym turn.here)) ∙ ap due (sym turn.next),
     )
 
 pub loop-e-preserved : goal.loop-e-preserved

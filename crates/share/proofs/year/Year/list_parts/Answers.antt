@@ -1,7 +1,7 @@
 use Rattle.std.proofs.Common.{◌≡◌, ◌+◌, ◌<◌, false, ◌&&◌, ltb, length, rules, sym, subst, arith}
 use Rattle.line.specs.Held.{held}
 use Rattle.share.specs.Answer.{at}
-use Rattle.share.proofs.Along.{along_start, along_turn, along_end}
+use Rattle.number.proofs.Along.{along_start, along_turn, along_end}
 use Rattle.share.proofs.Lists.{Written, written_none, written_more, written_same, unused_free, costs_free}
 use Rattle.share.proofs.year.Year.list_parts.Goals as goal
 use Rattle.share.proofs.year.Year.list_parts.Goals.{else-cost-gt0-via-then-cost-gt0+else-uses, else-cost-gt0-via-else-cost-gt0}
@@ -21,8 +21,8 @@ loop-e-preserved-then-uses c =
     let rows = c.args.rows.now in
     let turn = along_turn c.loop-e.invariant.1 c.next.new.self c.in-Some.cost c.in-Some.ensures.steps in
     let before = subst (Written l year.costs.now c.args.farm.0 rows c.loop-e.rows c.loop-e.k) (sym turn.here) c.loop-e.invariant.2 in
-    let room : c.loop-e.k < length c.loop-e.rows = omega (arith, c.requires, before.most, turn.part) in
-    let after = written_more l year.costs.now c.args.farm.0 rows c.loop-e.rows c.loop-e.k c.in-Some.e _ _ room (sym c.if-uses.ensures) c.if-cost-gt0.true turn.cost c.users.ensures before in
+    let room : c.loop-e.k < length c.loop-e.rows = omega (arith, c.requires, before.most, turn.below) in
+    let after = written_more l year.costs.now c.args.farm.0 rows c.loop-e.rows c.loop-e.k c.in-Some.e _ _ room (sym c.if-uses.ensures) c.if-cost-gt0.true turn.item c.users.ensures before in
     (((tt, tt), tt), turn.along, subst (Written l year.costs.now c.args.farm.0 rows _ (c.loop-e.k + 1)) (sym turn.next) after)
 
 pub loop-e-preserved : goal.loop-e-preserved
@@ -35,7 +35,7 @@ loop-e-preserved c =
     let free : (l.uses c.args.farm.0 c.in-Some.e && ltb 0 (at year.costs.now c.in-Some.e)) ≡ false =
     elim c.else-cost-gt0.branch [
       | else-cost-gt0-via-then-cost-gt0+else-uses v ↦ unused_free (l.uses c.args.farm.0 c.in-Some.e) _ (sym v.if-uses.ensures)
-      | else-cost-gt0-via-else-cost-gt0 v ↦ costs_free (l.uses c.args.farm.0 c.in-Some.e) (at year.costs.now c.in-Some.e) (omega (arith, turn.cost, v.if-cost-gt0.false))
+      | else-cost-gt0-via-else-cost-gt0 v ↦ costs_free (l.uses c.args.farm.0 c.in-Some.e) (at year.costs.now c.in-Some.e) (omega (arith, turn.item, v.if-cost-gt0.false))
     ] in
     (((tt, tt), tt), turn.along, subst (Written l year.costs.now c.args.farm.0 rows c.loop-e.rows c.loop-e.k) (sym turn.next) (written_same l year.costs.now c.args.farm.0 rows c.loop-e.rows c.loop-e.k c.in-Some.e free before))
 

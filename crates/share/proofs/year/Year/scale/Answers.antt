@@ -4,7 +4,7 @@ use Rattle.line.specs.Held.{held}
 use Rattle.share.specs.Answer.{at}
 use Rattle.share.specs.Least.{LeastScale}
 use Rattle.share.specs.Limits.{scale_end}
-use Rattle.share.proofs.Along.{along_start, along_turn, along_end}
+use Rattle.number.proofs.Along.{along_start, along_turn, along_end}
 use Rattle.share.proofs.Leasts.{least_none, least_free, least_more, least_large}
 use Rattle.share.proofs.year.Year.scale.Goals as goal
 
@@ -25,7 +25,7 @@ returns-in_err-scale c =
     let s = c.loop-e.scale in
     let turn = along_turn c.loop-e.invariant.1 c.next.new.self c.in-Some.cost c.in-Some.ensures.steps in
     simp c.from_residual.ensures (
-    least_large l (at costs) e s scale_end c.args.self.now.line.now.used turn.part (omega (arith, turn.cost, c.if-cost-gt0.true))
+    least_large l (at costs) e s scale_end c.args.self.now.line.now.used turn.below (omega (arith, turn.item, c.if-cost-gt0.true))
     (subst (λ k. LeastScale l (at costs) k s) (sym turn.here) c.loop-e.invariant.2)
     (λ m h. c.in_err-scale.ensures m (subst (λ u. Least s u m) (sym c.users.ensures) h))
     )
@@ -40,7 +40,7 @@ loop-e-preserved-then-cost-gt0 c =
     let turn = along_turn c.loop-e.invariant.1 c.next.new.self c.in-Some.cost c.in-Some.ensures.steps in
     let new = c.in_ok-scale.ensures in
     let before = subst (λ k. LeastScale l (at costs) k s) (sym turn.here) c.loop-e.invariant.2 in
-    let after = least_more l (at costs) e s c.in_ok-scale.scale (omega (arith, turn.cost, c.if-cost-gt0.true)) (subst (λ u. Least s u c.in_ok-scale.scale) c.users.ensures new.0) before in
+    let after = least_more l (at costs) e s c.in_ok-scale.scale (omega (arith, turn.item, c.if-cost-gt0.true)) (subst (λ u. Least s u c.in_ok-scale.scale) c.users.ensures new.0) before in
     (((tt, tt), tt), turn.along, subst (λ k. LeastScale l (at costs) k c.in_ok-scale.scale) (sym turn.next) after, new.1)
 
 pub loop-e-preserved : goal.loop-e-preserved
@@ -51,7 +51,7 @@ loop-e-preserved c =
     let s = c.loop-e.scale in
     let turn = along_turn c.loop-e.invariant.1 c.next.new.self c.in-Some.cost c.in-Some.ensures.steps in
     let before = subst (λ k. LeastScale l (at costs) k s) (sym turn.here) c.loop-e.invariant.2 in
-    let after = least_free l (at costs) e s (omega (arith, turn.cost, c.if-cost-gt0.false)) before in
+    let after = least_free l (at costs) e s (omega (arith, turn.item, c.if-cost-gt0.false)) before in
     (((tt, tt), tt), turn.along, subst (λ k. LeastScale l (at costs) k s) (sym turn.next) after, c.loop-e.invariant.3)
 
 pub returns : goal.returns
