@@ -1,4 +1,4 @@
-// Farms and parts go by their numbers, from 0.
+// Farms and parts go by their numbers, from 0: two types, so that neither is taken for the other.
 
 // A farm, by its number.
 #[derive(Clone, Copy, PartialEq, Eq, Debug)]

@@ -1,7 +1,7 @@
 use Rattle.std.proofs.Common.{ℕ, Bool, ◌++◌, ◌∷◌, [], sym, ap, lit<, subst, ◌∙◌, rules, arith}
 use Rattle.line.specs.Held.{held}
 use Rattle.line.specs.Limits.{most_farms}
-use Rattle.number.proofs.Along.{along_start, along_turn, along_end, next_number}
+use Rattle.number.proofs.Along.{along_start, along_turn, along_end}
 use Rattle.share.specs.Answer.{at}
 use Rattle.cents.specs.Marking.{Listed}
 use Rattle.cents.proofs.Counts.{listed_none, listed_few, listed_more, listed_same}
