@@ -1,5 +1,6 @@
 pub mod Sums
 pub mod Firsts
+pub mod Positions
 pub mod Euclid
 pub mod Integers
 pub mod Fractions

@@ -37,7 +37,6 @@ impl fmt::Display for Cents {
 
     // The number of cents, in decimal.
     fn fmt<W: fmt::Write>(&self, f: &mut fmt::Formatter<W>) -> fmt::Result {
-        let n = self.0;
-        write!(f, "{n}")
+        write!(f, "{}", self.0)
     }
 }

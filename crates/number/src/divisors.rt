@@ -43,8 +43,6 @@ pub fn lcm_below(a: u64, b: u64, bound: u64) -> Option<u64>
 }
 
 // The greatest common divisor and the least common multiple are what their names say, and there is always just one of each.
-pub fn divisors_stand() -> u8
+pub fn divisors_stand()
     ensures { NoGreater × NoSmaller × OnlyOne × AlwaysOne }
-{
-    0
-}
+{}

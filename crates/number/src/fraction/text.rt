@@ -10,12 +10,10 @@ impl fmt::Display for Fraction {
 
     // As top/bottom, or the top alone if the bottom is 1.
     fn fmt<W: fmt::Write>(&self, f: &mut fmt::Formatter<W>) -> fmt::Result {
-        let top = self.top;
-        let bottom = self.bottom;
-        if bottom == 1 {
-            write!(f, "{top}")
+        if self.bottom == 1 {
+            write!(f, "{}", self.top)
         } else {
-            write!(f, "{top}/{bottom}")
+            write!(f, "{}/{}", self.top, self.bottom)
         }
     }
 }
