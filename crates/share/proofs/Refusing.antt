@@ -1,10 +1,14 @@
 -- What is refused, test by test.
-use Rattle.std.proofs.Common.{◌≡◌, ℕ, ◌<◌, ◌≤◌, Bool, true, false, cond, List, length, Some, None, Option, refl, arith}
+use Rattle.std.proofs.Common.{◌≡◌, ℕ, ◌<◌, ◌≤◌, Bool, true, false, not, cond, nat_le, List, length, take, position, option_map, slice_index, Some, None, Option, refl, ap, ◌∙◌, arith}
 use Rattle.std.proofs.lemmas.Bool.{ltb-false, leb-false, lt-ltb, le-ltb, lt-leb, le-leb}
-use Rattle.number.proofs.Firsts.{each_fails}
+use Rattle.std.specs.List.{position_or_len}
+use Rattle.std.proofs.lemmas.List.{get_or-take, length-take}
+use Rattle.std.proofs.lemmas.List.Sums.{prefix_len_is}
+use Rattle.number.specs.First.{first, some}
+use Rattle.number.proofs.Firsts.{each_fails, first_most, first_before, first_passes}
 use Rattle.line.specs.declared.refusal.Lent.TheVariants.{Accounts, Costs as TheCosts, Sheet}
 use Rattle.line.specs.declared.refusal.Refusal.{Refusal}
-use Rattle.line.specs.declared.refusal.Refusal.TheVariants.{Unknown, Short}
+use Rattle.line.specs.declared.refusal.Refusal.TheVariants.{Unknown, Amount, Short}
 use Rattle.line.specs.Limits.{costs_end}
 use Rattle.line.specs.Line.{Line}
 use Rattle.share.specs.Answer.{at, too_large, large_refused, costs_refused, shares_refused, farm_refused, parts_refused}
@@ -13,6 +17,21 @@ use Rattle.share.specs.Answer.{at, too_large, large_refused, costs_refused, shar
 pub passed : (t : Bool) (e : Refusal) (x : Option Refusal) → cond t (Some e) x ≡ None → (t ≡ false) × (x ≡ None)
 passed true e x h = let z : ◌≡◌ {A = ℕ} 0 1 = cc in absurd (omega arith)
 passed false e x h = (refl, h)
+
+-- the first of m costs that is too large, as std's `position` finds it
+found_large : (m : ℕ) (costs : List ℕ) → m ≤ length costs → position_or_len (nat_le costs_end) (take m costs) ≡ first m (too_large costs)
+found_large m costs h =
+    let same : (k : ℕ) → k < m → nat_le costs_end (slice_index (take m costs) k) ≡ too_large costs k = λ k l. ap (nat_le costs_end) (get_or-take m costs k 0 l) in
+    prefix_len_is (λ x. not (nat_le costs_end x)) (take m costs) (first m (too_large costs)) 0 (omega (arith, first_most m (too_large costs), length-take m costs))
+    (λ k l. ap not (same k (omega (arith, first_most m (too_large costs))) ∙ first_before m (too_large costs) k l))
+    (λ l. ap not (same (first m (too_large costs)) (omega (arith, length-take m costs)) ∙ first_passes m (too_large costs) (omega (arith, length-take m costs))))
+
+-- what is refused of what `position` gives
+pub position_refused : (m : ℕ) (costs : List ℕ) → m ≤ length costs → (r : Option ℕ) → r ≡ position (nat_le costs_end) (take m costs) → option_map Amount r ≡ large_refused m costs
+unfolding large_refused
+position_refused m costs h r is =
+    let long : length (take m costs) ≡ m = omega (arith, length-take m costs) in
+    rw (is, found_large m costs h, long) (elim (some m (too_large costs)) as (λ b. option_map Amount (cond b (Some (first m (too_large costs))) None) ≡ cond b (Some (Amount (first m (too_large costs)))) None) [ true ↦ refl | false ↦ refl ])
 
 -- none of the costs is too large where none is refused
 pub costs_small : (m : ℕ) (costs : List ℕ) → large_refused m costs ≡ None → (e : ℕ) → e < m → at costs e < costs_end

@@ -9,8 +9,6 @@ use Rattle.line.specs.declared.refusal.Refusal.{Refusal}
 use Rattle.line.specs.declared.refusal.Refusal.TheVariants.{Unknown, Amount, Short}
 use Rattle.line.specs.Limits.{costs_end}
 use Rattle.line.specs.Line.{Line}
-use Rattle.share.specs.declared.form.Form.{Form}
-use Rattle.share.specs.declared.form.Form.TheVariants.{Scaled, ByPart}
 use Rattle.share.specs.declared.form.PartShare.{PartShare}
 use Rattle.share.specs.Fair.{FairOnce}
 use Rattle.share.specs.Least.{ScaleAnswer}
@@ -58,10 +56,10 @@ pub record OverScale (l : Line) (costs before after : List ℕ) (s : ℕ) : Type
   pub small : (i : ℕ) → i < l.farms → at after i < 2 ^ 63
   pub rest : drop l.farms after ≡ drop l.farms before
 
--- what the call for the shares of all farms answers and leaves in the numbers that are lent for them
-abbrev pub SharesAnswer : Line → (costs before after : List ℕ) → Result Form Refusal → Type 0
-SharesAnswer l costs before after (Ok (Scaled s)) = ScaleAnswer l (at costs) (Some s) × OverScale l costs before after s
-SharesAnswer l costs before after (Ok ByPart) = ScaleAnswer l (at costs) None × (after ≡ before)
+-- what the call for the shares of all farms answers, and leaves in the numbers that are lent for them: the scale, or none, where shares are given part by part
+abbrev pub SharesAnswer : Line → (costs before after : List ℕ) → Result (Option ℕ) Refusal → Type 0
+SharesAnswer l costs before after (Ok (Some s)) = ScaleAnswer l (at costs) (Some s) × OverScale l costs before after s
+SharesAnswer l costs before after (Ok None) = ScaleAnswer l (at costs) None × (after ≡ before)
 SharesAnswer l costs before after (Err e) = after ≡ before
 
 -- a farm's share part by part: the first k rows are its parts that cost something, and what they come to is what the rule gives, and every fair rule

@@ -1,29 +1,35 @@
 // Costs that are refused.
-ghost use Rattle.std.specs.Prelude.{◌≡◌, ◌≤◌, length};
+ghost use Rattle.std.specs.Prelude.{◌≡◌, ◌≤◌, length, position, nat_le};
+ghost use Rattle.std.specs.Result.{result_err};
 ghost use Rattle.share.specs.Answer.{large_refused, costs_refused};
 
 use line::limits::COSTS_END;
 use line::refusal::{Lent, Refusal};
 
-// The first of so many parts whose cost is too large.
-pub(crate) fn large_cost(costs: &[u64], parts: u16) -> Option<Refusal>
-    requires { parts ≤ length costs.now }
-    ensures { result ≡ large_refused parts costs.now }
+// The first cost that is too large.
+fn first_large(costs: &[u64]) -> Option<usize>
+    ensures { result ≡ position (λ cost. nat_le COSTS_END cost) costs.now }
 {
-    for e in 0..parts as usize {
-        if costs[e] >= COSTS_END {
-            return Some(Refusal::Amount(e));
-        }
-    }
-    None
+    costs.iter().position(|cost| *cost >= COSTS_END)
 }
 
-// What is wrong with the costs of so many parts.
-pub fn refused_costs(costs: &[u64], parts: u16) -> Option<Refusal>
-    ensures { result ≡ costs_refused parts costs.now }
+// Refuses the first of so many parts whose cost is too large.
+pub(crate) fn check_large(costs: &[u64], parts: u16) -> Result<(), Refusal>
+    requires { parts ≤ length costs.now }
+    ensures { result_err result ≡ large_refused parts costs.now }
+{
+    match first_large(&costs[..parts as usize]) {
+        Some(part) => Err(Refusal::Amount(part)),
+        None => Ok(()),
+    }
+}
+
+// Refuses the costs of so many parts: there are too few, or one is too large.
+pub fn check_costs(costs: &[u64], parts: u16) -> Result<(), Refusal>
+    ensures { result_err result ≡ costs_refused parts costs.now }
 {
     if costs.len() < parts as usize {
-        return Some(Refusal::Short(Lent::Costs));
+        return Err(Refusal::Short(Lent::Costs));
     }
-    large_cost(costs, parts)
+    check_large(costs, parts)
 }

@@ -5,7 +5,7 @@ ghost use Rattle.line.specs.Held.{held};
 ghost use Rattle.share.specs.Answer.{at, parts_refused, PartsAnswer};
 ghost use Rattle.share.specs.Listed.{listed};
 
-use crate::costs::large_cost;
+use crate::costs::check_large;
 use crate::form::PartShare;
 use line::line::Line;
 use line::names::{Farm, Part};
@@ -61,8 +61,6 @@ pub fn part_shares(
     if farm.0 >= line.size.farms {
         return Err(Refusal::Unknown(farm.0 as usize));
     }
-    if let Some(refusal) = large_cost(costs, line.size.parts) {
-        return Err(refusal);
-    }
+    check_large(costs, line.size.parts)?;
     Ok(list_parts(line, costs, farm, rows))
 }

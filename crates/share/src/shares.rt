@@ -8,8 +8,7 @@ ghost use Rattle.share.specs.Asked.{Asked};
 ghost use Rattle.share.specs.Scale.{scaled};
 ghost use Rattle.share.specs.Weight.{once};
 
-use crate::costs::{large_cost, refused_costs};
-use crate::form::Form;
+use crate::costs::{check_costs, check_large};
 use crate::scale::scale_of;
 use line::line::Line;
 use line::names::{Farm, Part};
@@ -46,21 +45,19 @@ fn add_up(line: &Line, costs: &[u64], scale: u64, row: &mut [u64])
 }
 
 // The shares of all farms, over the least scale if it is below the limit; the row has a number for each farm.
-pub fn shares(line: &Line, costs: &[u64], row: &mut [u64]) -> Result<Form, Refusal>
+pub fn shares(line: &Line, costs: &[u64], row: &mut [u64]) -> Result<Option<u64>, Refusal>
     ensures refused { result_err result ≡ shares_refused (held line.now) costs.now (length row.old) }
     ensures answer { SharesAnswer (held line.now) costs.now row.old row.new result }
 {
     if row.len() < line.size.farms as usize {
         return Err(Refusal::Short(Lent::Accounts));
     }
-    if let Some(refusal) = refused_costs(costs, line.size.parts) {
-        return Err(refusal);
-    }
+    check_costs(costs, line.size.parts)?;
     let Some(scale) = scale_of(line, costs) else {
-        return Ok(Form::ByPart);
+        return Ok(None);
     };
     add_up(line, costs, scale, row);
-    Ok(Form::Scaled(scale))
+    Ok(Some(scale))
 }
 
 // What one farm pays, times the scale.
@@ -89,9 +86,7 @@ pub fn share_of(line: &Line, costs: &[u64], farm: Farm) -> Result<Option<Fractio
     if farm.0 >= line.size.farms {
         return Err(Refusal::Unknown(farm.0 as usize));
     }
-    if let Some(refusal) = large_cost(costs, line.size.parts) {
-        return Err(refusal);
-    }
+    check_large(costs, line.size.parts)?;
     let Some(scale) = scale_of(line, costs) else {
         return Ok(None);
     };

@@ -8,7 +8,7 @@ mod tests {
     use line::read::read_line;
     use line::refusal::{Lent, Refusal};
     use number::cents::Cents;
-    use share::form::{Form, PartShare};
+    use share::form::PartShare;
     use share::parts::part_shares;
     use share::shares::{share_of, shares};
     use std::process::Abort;
@@ -49,7 +49,7 @@ mod tests {
             words: &mut words,
         };
         let mut row = [7u64; 8];
-        assert_eq!(rt; shares(&line, costs, &mut row), Ok(Form::Scaled(scale)));
+        assert_eq!(rt; shares(&line, costs, &mut row), Ok(Some(scale)));
         assert_eq!(rt; row[7], 7);
         assert_eq!(rt; expected.len(), size.farms as usize);
         for (i, (scaled, share)) in row.iter().zip(expected.iter()).enumerate() {
@@ -129,7 +129,7 @@ mod tests {
         };
         let costs = [70, 90, 110, 130];
         let mut row = [7u64; 13];
-        assert_eq!(rt; shares(&line, &costs, &mut row), Ok(Form::ByPart));
+        assert_eq!(rt; shares(&line, &costs, &mut row), Ok(None));
         assert_eq!(rt; row[0], 7);
         assert!(rt; share_of(&line, &costs, Farm(8))?.is_none());
         let mut rows = [PartShare {

@@ -1,5 +1,6 @@
 use Rattle.std.proofs.Common.{length, sym, refl, ◌∙◌}
 use Rattle.number.proofs.Fractions.{same_sym, ◌then◌}
+use Rattle.std.proofs.lemmas.Result.{err_from_is_err_and}
 use Rattle.line.specs.Held.{held}
 use Rattle.share.specs.Answer.{at}
 use Rattle.share.proofs.Lists.{total_listed}
@@ -22,14 +23,15 @@ returns-then-farm-line c =
       answer = refl;
     }
 
-pub returns-in-Some : goal.returns-in-Some
-returns-in-Some c =
-    record {
+pub returns-in_err-check_large : goal.returns-in_err-check_large
+returns-in_err-check_large c =
+    let p = err_from_is_err_and c.from_residual.result c.from_residual.ensures.1 in
+    rw (p.1, p.2) (record {
       refused =
-          c.in-Some.ensures
+          c.in_err-check_large.ensures
           ∙ sym (parts_on (held c.args.line.now) c.args.costs.now c.args.farm.0 (length c.args.rows.now) c.if-costs-line.false c.if-rows-line.false c.if-farm-line.false);
       answer = refl;
-    }
+    })
 
 pub list_parts-requires : goal.list_parts-requires
 list_parts-requires c = record { room = c.if-rows-line.false; enough = c.if-costs-line.false }
@@ -41,7 +43,7 @@ returns c =
     let share = total_listed (held line) costs c.args.farm.0 line.size.parts then same_sym (once_rule_lem (held line) line.used costs c.args.farm.0) in
     record {
       refused =
-          c.in_default.ensures
+          c.in_ok-check_large.ensures
           ∙ sym (parts_on (held line) c.args.costs.now c.args.farm.0 (length c.args.rows.now) c.if-costs-line.false c.if-rows-line.false c.if-farm-line.false);
       answer = record {
         rows = c.list_parts.ensures.front;

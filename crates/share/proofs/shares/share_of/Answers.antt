@@ -3,6 +3,7 @@ use Rattle.number.specs.Fraction.{over, ◌≈◌}
 use Rattle.number.specs.Reduced.{value, Fitting}
 use Rattle.number.specs.declared.fraction.Fraction.{Fraction as Reduced}
 use Rattle.number.proofs.Fractions.{same_refl, ◌then◌}
+use Rattle.std.proofs.lemmas.Result.{err_from_is_err_and}
 use Rattle.line.specs.Held.{held}
 use Rattle.line.specs.Limits.{most_parts}
 use Rattle.line.specs.Line.{Line, users}
@@ -39,20 +40,22 @@ returns-then-costs-line c = record { refused = sym (farm_short (held c.args.line
 pub returns-then-farm-line : goal.returns-then-farm-line
 returns-then-farm-line c = record { refused = sym (farm_unknown (held c.args.line.now) c.args.costs.now c.args.farm.0 c.if-costs-line.false c.if-farm-line.true); answer = tt }
 
-pub returns-in-Some : goal.returns-in-Some
-returns-in-Some c = record { refused = c.in-Some.ensures ∙ sym (farm_on (held c.args.line.now) c.args.costs.now c.args.farm.0 c.if-costs-line.false c.if-farm-line.false); answer = tt }
+pub returns-in_err-check_large : goal.returns-in_err-check_large
+returns-in_err-check_large c =
+    let p = err_from_is_err_and c.from_residual.result c.from_residual.ensures.1 in
+    rw (p.1, p.2) (record { refused = c.in_err-check_large.ensures ∙ sym (farm_on (held c.args.line.now) c.args.costs.now c.args.farm.0 c.if-costs-line.false c.if-farm-line.false); answer = tt })
 
 pub scale_of-requires : goal.scale_of-requires
 scale_of-requires c = c.if-costs-line.false
 
-pub returns-in_default-scale_of : goal.returns-in_default-scale_of
-returns-in_default-scale_of c =
-    record { refused = c.in_default.ensures ∙ sym (farm_on (held c.args.line.now) c.args.costs.now c.args.farm.0 c.if-costs-line.false c.if-farm-line.false); answer = c.in_default-scale_of.ensures }
+pub returns-in_default : goal.returns-in_default
+returns-in_default c =
+    record { refused = c.in_ok-check_large.ensures ∙ sym (farm_on (held c.args.line.now) c.args.costs.now c.args.farm.0 c.if-costs-line.false c.if-farm-line.false); answer = c.in_default.ensures }
 
 pub due_of-requires : goal.due_of-requires
 due_of-requires c =
-    let small = costs_small c.args.line.now.size.parts c.args.costs.now (sym c.in_default.ensures) in
-    let scale = c.in-Some-scale_of.ensures in
+    let small = costs_small c.args.line.now.size.parts c.args.costs.now (sym c.in_ok-check_large.ensures) in
+    let scale = c.in-Some.ensures in
     record { asked = record { enough = c.if-costs-line.false; small = small; least = scale.0; below = scale.1 }; member = c.if-farm-line.false }
 
 pub returns : goal.returns
@@ -60,11 +63,11 @@ returns c =
     let line = c.args.line.now in
     let l = held line in
     let costs = c.args.costs.now in
-    let s = c.in-Some-scale_of.scale in
-    let small = costs_small line.size.parts costs (sym c.in_default.ensures) in
-    let scale = c.in-Some-scale_of.ensures in
+    let s = c.in-Some.scale in
+    let small = costs_small line.size.parts costs (sym c.in_ok-check_large.ensures) in
+    let scale = c.in-Some.ensures in
     let asked : Asked l costs s = record { enough = c.if-costs-line.false; small = small; least = scale.0; below = scale.1 } in
     record {
-      refused = c.in_default.ensures ∙ sym (farm_on l costs c.args.farm.0 c.if-costs-line.false c.if-farm-line.false);
+      refused = c.in_ok-check_large.ensures ∙ sym (farm_on l costs c.args.farm.0 c.if-costs-line.false c.if-farm-line.false);
       answer = given l costs c.args.farm.0 s _ asked line.used line.parts.1 c.if-farm-line.false c.due_of.ensures c.new.result (c.new.ensures.fits (least_positive l (at costs) s line.used scale.0));
     }

@@ -1,4 +1,5 @@
 use Rattle.std.proofs.Common.{◌^◌, ◌<◌, length, sym, refl, ◌∙◌, subst, arith}
+use Rattle.std.proofs.lemmas.Result.{err_from_is_err_and}
 use Rattle.line.specs.Held.{held}
 use Rattle.share.specs.Answer.{at}
 use Rattle.share.specs.Asked.{Asked}
@@ -11,24 +12,25 @@ use Rattle.share.proofs.shares.shares.Goals as goal
 pub returns-then-row-line : goal.returns-then-row-line
 returns-then-row-line c = record { refused = sym (shares_short (held c.args.line.now) c.args.costs.now (length c.args.row.now) c.if-row-line.true); answer = refl }
 
-pub returns-in-Some : goal.returns-in-Some
-returns-in-Some c =
-    record { refused = c.in-Some.ensures ∙ sym (shares_on (held c.args.line.now) c.args.costs.now (length c.args.row.now) c.if-row-line.false); answer = refl }
+pub returns-in_err-check_costs : goal.returns-in_err-check_costs
+returns-in_err-check_costs c =
+    let p = err_from_is_err_and c.from_residual.result c.from_residual.ensures.1 in
+    rw (p.1, p.2) (record { refused = c.in_err-check_costs.ensures ∙ sym (shares_on (held c.args.line.now) c.args.costs.now (length c.args.row.now) c.if-row-line.false); answer = refl })
 
 pub scale_of-requires : goal.scale_of-requires
-scale_of-requires c = (costs_fine c.args.line.now.size.parts c.args.costs.now (sym c.in_default.ensures)).0
+scale_of-requires c = (costs_fine c.args.line.now.size.parts c.args.costs.now (sym c.in_ok-check_costs.ensures)).0
 
-pub returns-in_default-scale_of : goal.returns-in_default-scale_of
-returns-in_default-scale_of c =
+pub returns-in_default : goal.returns-in_default
+returns-in_default c =
     record {
-      refused = c.in_default.ensures ∙ sym (shares_on (held c.args.line.now) c.args.costs.now (length c.args.row.now) c.if-row-line.false);
-      answer = (c.in_default-scale_of.ensures, refl);
+      refused = c.in_ok-check_costs.ensures ∙ sym (shares_on (held c.args.line.now) c.args.costs.now (length c.args.row.now) c.if-row-line.false);
+      answer = (c.in_default.ensures, refl);
     }
 
 pub add_up-requires : goal.add_up-requires
 add_up-requires c =
-    let fine = costs_fine c.args.line.now.size.parts c.args.costs.now (sym c.in_default.ensures) in
-    let scale = c.in-Some-scale_of.ensures in
+    let fine = costs_fine c.args.line.now.size.parts c.args.costs.now (sym c.in_ok-check_costs.ensures) in
+    let scale = c.in-Some.ensures in
     record { asked = record { enough = fine.0; small = fine.1; least = scale.0; below = scale.1 }; room = c.if-row-line.false }
 
 pub returns : goal.returns
@@ -36,13 +38,13 @@ returns c =
     let line = c.args.line.now in
     let l = held line in
     let costs = c.args.costs.now in
-    let s = c.in-Some-scale_of.scale in
-    let fine = costs_fine line.size.parts costs (sym c.in_default.ensures) in
-    let scale = c.in-Some-scale_of.ensures in
+    let s = c.in-Some.scale in
+    let fine = costs_fine line.size.parts costs (sym c.in_ok-check_costs.ensures) in
+    let scale = c.in-Some.ensures in
     let asked : Asked l costs s = record { enough = fine.0; small = fine.1; least = scale.0; below = scale.1 } in
     let is = c.add_up.ensures.shares in
     record {
-      refused = c.in_default.ensures ∙ sym (shares_on l costs (length c.args.row.now) c.if-row-line.false);
+      refused = c.in_ok-check_costs.ensures ∙ sym (shares_on l costs (length c.args.row.now) c.if-row-line.false);
       answer = (
         scale,
         record {
