@@ -3,7 +3,7 @@ use Rattle.std.proofs.Common.{◌≡◌, ℕ, ◌<◌, ◌≤◌, Bool, true, fa
 use Rattle.std.specs.Bool.{then_some}
 use Rattle.std.proofs.lemmas.List.{length-take-le, get_or-take, get_or_default}
 use Rattle.std.proofs.lemmas.Slice.Zip.{length-zip, get_or-zip}
-use Rattle.std.proofs.lemmas.Bool.{cases_lt, lt-ltb, le-ltb, leb-false, ltb-true, not-false, or_parts}
+use Rattle.std.proofs.lemmas.Bool.{cases_lt, le-ltb, leb-false, ltb-true, not-false, or_parts}
 use Rattle.number.specs.First.{first, some, found}
 use Rattle.number.proofs.Firsts.{first_none, first_same, each_fails}
 use Rattle.number.proofs.Positions.{position_found, found_some, found_none}

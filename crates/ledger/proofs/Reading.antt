@@ -1,13 +1,12 @@
 -- Bytes that are read, and what they are answered.
-use Rattle.std.proofs.Common.{◌≡◌, ℕ, ◌+◌, ◌*◌, ◌≤◌, Bool, true, false, cond, eqb, List, length, take, drop, is_ok, Some, None, Ok, Err, Option, Result, sym, refl, ap, ◌∙◌, ap₂, arith}
-use Rattle.std.specs.Option.{ok_or}
+use Rattle.std.proofs.Common.{◌≡◌, ℕ, ◌+◌, ◌*◌, ◌≤◌, true, cond, eqb, List, length, take, drop, Ok, Err, ap, arith}
 use Rattle.std.proofs.lemmas.List.{length-take-le, length-drop}
-use Rattle.std.proofs.lemmas.Bool.{both_ways, eq-eqb}
+use Rattle.std.proofs.lemmas.Bool.{eq-eqb}
 use Rattle.line.specs.declared.refusal.Refusal.{Refusal}
-use Rattle.line.specs.declared.refusal.Refusal.TheVariants.{Length, Kind}
-use Rattle.account.specs.Booking.{meant, reading}
+use Rattle.line.specs.declared.refusal.Refusal.TheVariants.{Length}
+use Rattle.account.specs.Booking.{reading}
 use Rattle.account.specs.declared.booking.Booking.{Booking}
-use Rattle.posting.specs.Run.{Answer, step, answer, unless, done, entry}
+use Rattle.posting.specs.Run.{Answer, step, answer, entry}
 use Rattle.posting.specs.State.{State}
 use Rattle.ledger.specs.Posted.{Posted}
 use Rattle.ledger.specs.Row.{answered, left_by}

@@ -29,13 +29,17 @@ done s (Cost p c) = Booked
 done s (Payment f c) = Booked
 done s Closing = Closed (record { 0 = closing_total s })
 
+-- how a booking is answered: what is done, or why nothing is booked
+abbrev pub Answer : Type 0
+Answer = Result Done Refusal
+
 -- what is done, unless there is a refusal
-abbrev pub unless : Option Refusal → Done → Result Done Refusal
+abbrev pub unless : Option Refusal → Done → Answer
 unless (Some e) d = Err e
 unless None d = Ok d
 
 -- how entry k is answered
-abbrev pub answer : ℕ → State → Entry → Result Done Refusal
+abbrev pub answer : ℕ → State → Entry → Answer
 answer k s (Some b) = unless (refused k s b) (done s b)
 answer k s None = Err (Kind k)
 

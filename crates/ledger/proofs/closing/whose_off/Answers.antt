@@ -1,4 +1,4 @@
-use Rattle.std.proofs.Common.{◌≡◌, ◌<◌, false, [], ap, ◌∙◌, arith}
+use Rattle.std.proofs.Common.{false, [], ap, ◌∙◌, arith}
 use Rattle.std.specs.Bool.{then_some}
 use Rattle.line.specs.Line.{Line}
 use Rattle.line.specs.declared.refusal.Holder.TheVariants.{Cooperative}

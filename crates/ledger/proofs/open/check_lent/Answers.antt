@@ -1,5 +1,4 @@
 use Rattle.std.proofs.Common.{length, Some, None, sym, refl, ap, ◌∙◌, arith}
-use Rattle.line.specs.declared.refusal.Refusal.{Refusal}
 use Rattle.line.specs.declared.refusal.Refusal.TheVariants.{Account}
 use Rattle.ledger.specs.Open.{blank}
 use Rattle.ledger.proofs.Lending.{lent_on}

@@ -1,4 +1,4 @@
-use Rattle.std.proofs.Common.{◌≡◌, ℕ, ◌+◌, ◌<◌, ◌≤◌, false, ltb, List, length, take, pos, ◌+ℤ◌, ◌-ℤ◌, refl, ap, ◌∙◌, subst, ap₂, arith, w64, to_z}
+use Rattle.std.proofs.Common.{◌≡◌, ℕ, ◌<◌, ◌≤◌, false, ltb, List, length, take, pos, ◌+ℤ◌, ◌-ℤ◌, refl, ap, ◌∙◌, subst, ap₂, arith, w64, to_z}
 use Rattle.std.proofs.lemmas.List.{get_or-take, length-take-le, get_or-replicate}
 use Rattle.std.proofs.lemmas.Bool.{and_left, le-ltb}
 use Rattle.number.specs.Sum.{sum}
