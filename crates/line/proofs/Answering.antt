@@ -1,15 +1,16 @@
 -- The answer to bytes, step by step.
-use Rattle.std.proofs.Common.{◌≡◌, ℕ, ◌*◌, ◌<◌, ◌≤◌, false, List, length, drop, Ok, Err, Result, refl, sym, ap, subst}
+use Rattle.std.proofs.Common.{◌≡◌, ℕ, ◌*◌, ◌<◌, ◌≤◌, false, List, length, drop, Some, Ok, Err, Result, refl, sym, ap, subst}
 use Rattle.std.proofs.lemmas.Bool.{le-ltb, lt-ltb, ltb-false}
-use Rattle.number.specs.First.{first}
+use Rattle.number.specs.First.{some, found}
 use Rattle.number.proofs.Firsts.{each_fails}
+use Rattle.number.proofs.Positions.{found_some}
 use Rattle.line.specs.declared.refusal.Lent.TheVariants.{Line as TheLine}
 use Rattle.line.specs.declared.refusal.Refusal.{Refusal}
 use Rattle.line.specs.declared.refusal.Refusal.TheVariants.{Users, Short}
 use Rattle.line.specs.declared.size.Size.{Size}
 use Rattle.line.specs.Bytes.{meant}
 use Rattle.line.specs.Reading.{part_faulty, sizing, fitting, and_then, reading, over, filled}
-use Rattle.line.specs.Rows.{across, rows}
+use Rattle.line.specs.Rows.{across, rows, word_length}
 use Rattle.line.proofs.Sizing.{Measured, measured, never_both, passed, taken_same}
 
 -- the size is refused
@@ -23,19 +24,19 @@ unfolding reading
 reading_ok b lent s h = ap (λ r. and_then r (fitting (drop 4 b) lent)) h
 
 -- a part is faulty
-pub fitting_fault : (xs : List ℕ) (lent : ℕ) (s : Size) → first s.parts (part_faulty s.farms xs) < s.parts → fitting xs lent s ≡ Err (Users (first s.parts (part_faulty s.farms xs)))
+pub fitting_fault : (xs : List ℕ) (lent : ℕ) (s : Size) (e : ℕ) → found s.parts (part_faulty s.farms xs) ≡ Some e → fitting xs lent s ≡ Err (Users e)
 unfolding fitting
-fitting_fault xs lent s h = simp (lt-ltb _ _ h)
+fitting_fault xs lent s e h = let p = found_some _ _ e h in simp p.0 (ap {B = Result Size Refusal} (λ k. Err (Users k)) p.1)
 
 -- none is, and there is too little room
-pub fitting_short : (xs : List ℕ) (lent : ℕ) (s : Size) → s.parts ≤ first s.parts (part_faulty s.farms xs) → lent < s.parts * across 64 s.farms → fitting xs lent s ≡ Err (Short TheLine)
+pub fitting_short : (xs : List ℕ) (lent : ℕ) (s : Size) → some s.parts (part_faulty s.farms xs) ≡ false → lent < word_length s.farms s.parts → fitting xs lent s ≡ Err (Short TheLine)
 unfolding fitting
-fitting_short xs lent s h g = simp (le-ltb _ _ h, lt-ltb _ _ g)
+fitting_short xs lent s h g = simp (h, lt-ltb _ _ g)
 
 -- none is, and there is room
-pub fitting_ok : (xs : List ℕ) (lent : ℕ) (s : Size) → s.parts ≤ first s.parts (part_faulty s.farms xs) → s.parts * across 64 s.farms ≤ lent → fitting xs lent s ≡ Ok s
+pub fitting_ok : (xs : List ℕ) (lent : ℕ) (s : Size) → some s.parts (part_faulty s.farms xs) ≡ false → word_length s.farms s.parts ≤ lent → fitting xs lent s ≡ Ok s
 unfolding fitting
-fitting_ok xs lent s h g = simp (le-ltb _ _ h, le-ltb _ _ g)
+fitting_ok xs lent s h g = simp (h, le-ltb _ _ g)
 
 -- what is known of bytes that are taken where so many words are lent
 pub record Fitted (b : List ℕ) (lent : ℕ) (s : Size) : Type 0 where

@@ -1,20 +1,20 @@
 -- What holds of the bytes that a line is written to.
-use Rattle.std.proofs.Common.{◌≡◌, ℕ, ◌+◌, ◌*◌, ◌/◌, ◌%◌, ◌<◌, ◌≤◌, false, not, ◌||◌, ltb, List, [], ◌∷◌, ◌++◌, length, get_or, take, drop, set, Ok, Err, sym, ap, ◌∙◌, subst, ap₂, ⊎_elim, arith}
+use Rattle.std.proofs.Common.{◌≡◌, ℕ, ◌+◌, ◌*◌, ◌/◌, ◌%◌, ◌<◌, ◌≤◌, false, not, ◌||◌, ltb, List, [], ◌∷◌, ◌++◌, length, get_or, take, drop, Ok, Err, sym, ap, ◌∙◌, subst, ap₂, ⊎_elim, arith}
 use borrow.Rule.Slice.PartMut.{put_mid, post_of}
 use Rattle.std.proofs.lemmas.List.{append-nil, drop_all, length-take-le, get_or_append_left, get_or-append_right, get_or_past}
 use Rattle.std.proofs.lemmas.Bool.{cases_lt, le-ltb, lt-ltb}
-use Rattle.number.proofs.Firsts.{first_none}
+use Rattle.number.proofs.Firsts.{none_from}
 use Rattle.line.specs.declared.refusal.Lent.TheVariants.{Line as TheLine}
 use Rattle.line.specs.declared.refusal.Refusal.TheVariants.{Short}
 use Rattle.line.specs.declared.size.Size.{Size}
-use Rattle.line.specs.Bytes.{byte_length, meant, bytes_of}
+use Rattle.line.specs.Bytes.{byte_length, meant, bytes_of, two}
 use Rattle.line.specs.Line.{Line, users}
 use Rattle.line.specs.Reading.{part_faulty, sizing, over, writing, written, Again}
 use Rattle.line.specs.Rows.{in_row, across, row, line_of, rows, SameRows}
 use Rattle.line.specs.Sound.{Sound}
 use Rattle.line.proofs.Answering.{reading_ok, fitting_ok}
 use Rattle.line.proofs.Rows.{uses_is, same_line, rows_length, rows_hold}
-use Rattle.line.proofs.Sizing.{sizing_whole}
+use Rattle.line.proofs.Sizing.{sizing_whole, whole_yes}
 use Rattle.line.proofs.Taking.{users_some, same_clear}
 
 module _ (s : Size) (ws : List ℕ) (so : Sound s.farms s.parts ws) where
@@ -42,9 +42,7 @@ module _ (s : Size) (ws : List ℕ) (so : Sound s.farms s.parts ws) where
       let m = s.parts in
       let l = line_of 64 n m ws in
       let len : length (bytes_of l) ≡ byte_length n m = omega (arith, rows_length 8 l) in
-      let enough = le-ltb (length (bytes_of l)) (byte_length n m) (omega arith) in
-      let no_more = le-ltb (byte_length n m) (length (bytes_of l)) (omega arith) in
-      sizing_whole (bytes_of l) s (omega arith) (omega arith) (omega arith) so.farms so.parts ∙ simp (enough, no_more)
+      sizing_whole (bytes_of l) s (omega arith) (omega arith) (omega arith) so.farms so.parts ∙ whole_yes (bytes_of l) s len
 
   -- reading what was written gives the same line
   pub again : Again (line_of 64 s.farms s.parts ws) s
@@ -57,20 +55,31 @@ module _ (s : Size) (ws : List ℕ) (so : Sound s.farms s.parts ws) where
         same =
             ap₂ (λ x y. line_of 8 x y (rows 8 l)) (let e : n % 256 + n / 256 * 256 ≡ n = omega arith in e) (let e : m % 256 + m / 256 * 256 ≡ m = omega arith in e)
             ∙ same_line 8 64 n m (rows 8 l) ws (omega arith) copy;
-        taken = λ lent h. reading_ok (bytes_of l) lent s size_told ∙ fitting_ok (rows 8 l) lent s (omega (arith, first_none m (part_faulty n (rows 8 l)) fine)) h;
+        taken = λ lent h. reading_ok (bytes_of l) lent s size_told ∙ fitting_ok (rows 8 l) lent s (none_from m (part_faulty n (rows 8 l)) fine) h;
       }
 
--- four bytes and then rows, written over b
-pub head_over : (l : Line) (b rest : List ℕ) (n0 n1 m0 m1 k : ℕ) → 4 ≤ length b → length b ≤ k + 4 → n0 ≡ l.farms % 256 → n1 ≡ l.farms / 256 → m0 ≡ l.parts % 256 → m1 ≡ l.parts / 256 →
-    rest ≡ over (rows 8 l) (drop 4 b) → put_mid 4 k (set (set (set (set b 0 n0) 1 n1) 2 m0) 3 m1) rest ≡ over (bytes_of l) b
+-- a number in two bytes, as the library writes it
+pub two_is : (n : ℕ) (r : List ℕ) → n < 65536 → r ≡ n % 256 ∷ n / 256 % 256 ∷ [] → r ≡ two n
+two_is n r h e = e ∙ ap (λ x. n % 256 ∷ x ∷ []) (let small : n / 256 % 256 ≡ n / 256 = omega arith in small)
+
+-- two numbers written over b
+pub headed : (n m : ℕ) (b xs ys : List ℕ) → 4 ≤ length b → xs ≡ two n → ys ≡ two m → put_mid 2 2 (put_mid 0 2 b xs) ys ≡ two n ++ (two m ++ drop 4 b)
+headed n m [] xs ys h p q = absurd (omega arith)
+headed n m (x ∷ []) xs ys h p q = absurd (omega arith)
+headed n m (x ∷ y ∷ []) xs ys h p q = absurd (omega arith)
+headed n m (x ∷ y ∷ z ∷ []) xs ys h p q = absurd (omega arith)
+headed n m (x ∷ y ∷ z ∷ u ∷ b) xs ys h p q = ap₂ (λ vs ws. put_mid 2 2 (put_mid 0 2 (x ∷ y ∷ z ∷ u ∷ b) vs) ws) p q
+
+-- and rows after them
+pub head_over : (l : Line) (b head rest : List ℕ) (k : ℕ) → 4 ≤ length b → length b ≤ k + 4 → head ≡ two l.farms ++ (two l.parts ++ drop 4 b) → rest ≡ over (rows 8 l) (drop 4 b) →
+    put_mid 4 k head rest ≡ over (bytes_of l) b
 unfolding bytes_of
-head_over l [] rest n0 n1 m0 m1 k h g p q r t e = absurd (omega arith)
-head_over l (x ∷ []) rest n0 n1 m0 m1 k h g p q r t e = absurd (omega arith)
-head_over l (x ∷ y ∷ []) rest n0 n1 m0 m1 k h g p q r t e = absurd (omega arith)
-head_over l (x ∷ y ∷ z ∷ []) rest n0 n1 m0 m1 k h g p q r t e = absurd (omega arith)
-head_over l (x ∷ y ∷ z ∷ u ∷ b) rest n0 n1 m0 m1 k h g p q r t e =
-    let end : rest ++ drop k b ≡ rest = ap (λ (xs : List ℕ). rest ++ xs) (drop_all k b (omega arith)) ∙ append-nil rest in
-    cc
+head_over l [] head rest k h g p e = absurd (omega arith)
+head_over l (x ∷ []) head rest k h g p e = absurd (omega arith)
+head_over l (x ∷ y ∷ []) head rest k h g p e = absurd (omega arith)
+head_over l (x ∷ y ∷ z ∷ []) head rest k h g p e = absurd (omega arith)
+head_over l (x ∷ y ∷ z ∷ u ∷ b) head rest k h g p e =
+    ap (λ r. put_mid 4 k r rest) p ∙ ap (λ xs. two l.farms ++ (two l.parts ++ xs)) (ap (λ (xs : List ℕ). rest ++ xs) (drop_all k b (omega arith)) ∙ append-nil rest ∙ e)
 
 -- what stands in a part of a slice stands in the slice
 pub part_fits : (a k w : ℕ) (xs ys : List ℕ) → a ≤ length xs → 0 < w → ((i : ℕ) → get_or (put_mid a k xs ys) i 0 < w) → (j : ℕ) → get_or ys j 0 < w

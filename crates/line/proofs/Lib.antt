@@ -1,5 +1,6 @@
 pub mod Digits
 pub mod Rows
+pub mod Chunks
 mod Users
 mod Faults
 pub mod Sizing

@@ -6,7 +6,7 @@ use Rattle.std.proofs.lemmas.Nat.{div-add-mod', mod_below, div_below, le-div, di
 use Rattle.std.proofs.lemmas.List.FromFn.{length-map-range_with_len, get_or-map-range_with_len}
 use Rattle.std.proofs.lemmas.List.{ext_get_or, length-take, length-take-le, length-drop, get_or-take, get_or-drop, get_or_past, get_or_append_left, get_or-set_same, get_or-set_other, drop-take, drop-drop, take_at, drop_at}
 use Rattle.std.proofs.lemmas.Slice.{take-put_mid_below, drop-put_mid}
-use Rattle.std.proofs.lemmas.Bool.{cases_lt, cases_eq, lt-ltb, le-ltb, ltb-true}
+use Rattle.std.proofs.lemmas.Bool.{cases_lt, lt-ltb, le-ltb, ltb-true}
 use Rattle.number.proofs.Firsts.{each_fails}
 use Rattle.line.specs.Line.{Line}
 use Rattle.line.specs.Rows.{has, in_row, across, row, stray, line_of, digit, rows, SameRows}
@@ -133,54 +133,34 @@ rows_are w l xs h fits room same =
 pub row_room : (e m a len : ℕ) → e < m → m * a ≤ len → e * a + a ≤ len
 row_room e m a len h g = omega (arith, mul-le-mul_right a h)
 
--- rows written one after the other: the first e hold what the first e of ys hold, and what comes after them is as it was in before
-abbrev pub Copied : (w a v b e : ℕ) → (xs ys before : List ℕ) → Type 0
-Copied w a v b e xs ys before = SameRows w a v b e xs ys × (drop (e * a) xs ≡ drop (e * a) before)
+-- after a write of r to `xs[e * a..e * a + a]`: row e, the rows before it, and what comes after it
+module _ {X : Type 0} (a e k : ℕ) (xs r : List X) (room : e * a + a ≤ length xs) (all : k ≡ a) (len : length r ≡ a) where
+  pub row_put : row a (put_mid (e * a) k xs r) e ≡ r
+  row_put = ap (take a) (drop_at (take (e * a) xs) (r ++ post_of (e * a) k xs) (e * a) (length-take-le (e * a) xs (omega arith))) ∙ take_at r (post_of (e * a) k xs) a len
 
--- one more row, written to `xs[e * a..e * a + a]`
-copied_row : (w a v b e k : ℕ) (xs ys before r : List ℕ) → length r ≡ a → k ≡ a → e * a + a ≤ length xs →
-    ((i : ℕ) → i < w * a → in_row w r i ≡ in_row v (row b ys e) i) → Copied w a v b e xs ys before → Copied w a v b (e + 1) (put_mid (e * a) k xs r) ys before
-copied_row w a v b e k xs ys before r len same room here so = (all, rest)
-  where
-    below : (d : ℕ) → d < e → row a (put_mid (e * a) k xs r) d ≡ row a xs d
-    below d l =
-        sym (drop-take (d * a) a _)
-        ∙ ap (drop (d * a)) (take-put_mid_below (e * a) k xs r (d * a + a) (omega (arith, mul-le-mul_right a l)) (omega arith))
-        ∙ drop-take (d * a) a xs
+  pub row_kept : (d : ℕ) → d < e → row a (put_mid (e * a) k xs r) d ≡ row a xs d
+  row_kept d l =
+      sym (drop-take (d * a) a _)
+      ∙ ap (drop (d * a)) (take-put_mid_below (e * a) k xs r (d * a + a) (omega (arith, mul-le-mul_right a l)) (omega arith))
+      ∙ drop-take (d * a) a xs
 
-    now : row a (put_mid (e * a) k xs r) e ≡ r
-    now = ap (take a) (drop_at (take (e * a) xs) (r ++ post_of (e * a) k xs) (e * a) (length-take-le (e * a) xs (omega arith))) ∙ take_at r (post_of (e * a) k xs) a len
-
-    all : SameRows w a v b (e + 1) (put_mid (e * a) k xs r) ys
-    all i d h l =
-        ⊎_elim
-        (λ (c : d ≡ e). ap (λ x. in_row w (row a (put_mid (e * a) k xs r) x) i) c ∙ ap (λ x. in_row w x i) now ∙ here i l ∙ ap (λ x. in_row v (row b ys x) i) (sym c))
-        (λ (c : d ≡ e → ⊥). let g : d < e = omega (arith, c) in ap (λ x. in_row w x i) (below d g) ∙ so.0 i d g l)
-        (cases_eq d e)
-
-    rest : drop ((e + 1) * a) (put_mid (e * a) k xs r) ≡ drop ((e + 1) * a) before
-    rest =
-        let next : e * a + a ≡ (e + 1) * a = omega arith in
-        drop-put_mid (e * a) k xs r ((e + 1) * a) (omega arith) (omega arith) (omega arith)
-        ∙ ap (λ x. drop x xs) (sym next) ∙ sym (drop-drop a (e * a) xs) ∙ ap (drop a) so.1 ∙ drop-drop a (e * a) before ∙ ap (λ x. drop x before) next
-
--- the step of a loop that writes row after row, each from a row src of ys
-pub copied_more : (w a v b e m : ℕ) (xs ys before r src : List ℕ) → e < m → m * a ≤ length xs → length r ≡ length (take (e * a + a - e * a) (drop (e * a) xs)) →
-    src ≡ row b ys e → ((i : ℕ) → i < w * length r → in_row w r i ≡ in_row v src i) → Copied w a v b e xs ys before →
-    Copied w a v b (e + 1) (put_mid (e * a) (e * a + a - e * a) xs r) ys before
-copied_more w a v b e m xs ys before r src h room kept from same so =
-    let here = row_room e m a (length xs) h room in
-    let all : e * a + a - e * a ≡ a = omega arith in
-    let len : length r ≡ a = kept ∙ length-take-le (e * a + a - e * a) (drop (e * a) xs) (omega (arith, length-drop (e * a) xs)) ∙ all in
-    copied_row w a v b e (e * a + a - e * a) xs ys before r len all here (λ i l. same i (subst (λ x. i < w * x) (sym len) l) ∙ ap (λ x. in_row v x i) from) so
-
--- its end
-pub copied_all : (w a v b e m : ℕ) (xs ys before : List ℕ) (c d : ℕ) → e ≡ m → a ≡ c → b ≡ d → Copied w a v b e xs ys before → Copied w c v d m xs ys before
-copied_all w a v b e m xs ys before c d p q r so = rw (sym p, sym q, sym r) so
+  pub rest_kept : (before : List X) → drop (e * a) xs ≡ drop (e * a) before → drop ((e + 1) * a) (put_mid (e * a) k xs r) ≡ drop ((e + 1) * a) before
+  rest_kept before so =
+      let next : e * a + a ≡ (e + 1) * a = omega arith in
+      drop-put_mid (e * a) k xs r ((e + 1) * a) (omega arith) (omega arith) (omega arith)
+      ∙ ap (λ x. drop x xs) (sym next) ∙ sym (drop-drop a (e * a) xs) ∙ ap (drop a) so ∙ drop-drop a (e * a) before ∙ ap (λ x. drop x before) next
 
 -- it has all its digits
 pub row_whole : (e m a : ℕ) (xs : List ℕ) → e < m → m * a ≤ length xs → length (row a xs e) ≡ a
 row_whole e m a xs h g = length-take-le a (drop (e * a) xs) (omega (arith, length-drop (e * a) xs, row_room e m a (length xs) h g))
+
+-- a row z of xs that holds what a row x of ys holds
+pub row_copied : (w a c v b d e m : ℕ) (xs ys x z : List ℕ) → e < m → m * c ≤ length xs → a ≡ c → b ≡ d → x ≡ row b ys e → z ≡ row a xs e → ((i : ℕ) → i < w * length z → in_row w z i ≡ in_row v x i) →
+    (i : ℕ) → i < w * c → in_row w (row c xs e) i ≡ in_row v (row d ys e) i
+row_copied w a c v b d e m xs ys x z h room p q from to same i l =
+    let here : z ≡ row c xs e = to ∙ ap (λ n. row n xs e) p in
+    let there : x ≡ row d ys e = from ∙ ap (λ n. row n ys e) q in
+    ap (λ r. in_row w r i) (sym here) ∙ same i (subst (λ n. i < w * n) (sym (ap length here ∙ row_whole e m c xs h room)) l) ∙ ap (λ r. in_row v r i) there
 
 -- a row of digits, written one after the other
 pub digit_more : (w : ℕ) (xs : List ℕ) (k v : ℕ) (f : ℕ → Bool) → 0 < w → k < length xs → ((j : ℕ) → j < w → has v j ≡ f (w * k + j)) →

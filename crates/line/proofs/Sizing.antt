@@ -1,9 +1,10 @@
 -- The size that bytes tell.
-use Rattle.std.proofs.Common.{◌≡◌, ℕ, ◌-◌, ◌*◌, ◌≤◌, Bool, true, false, cond, ltb, List, length, take, drop, Ok, Err, Result, sym, refl, ap, ◌∙◌, subst, ap₂, arith}
-use Rattle.std.proofs.lemmas.Bool.{ltb-false, le-ltb, not-false, and_parts, ltb-true, leb-true}
+use Rattle.std.proofs.Common.{◌≡◌, ℕ, ◌-◌, ◌*◌, ◌<◌, ◌≤◌, Bool, true, false, cond, ltb, List, length, take, drop, Ok, Err, Result, sym, refl, ap, ◌∙◌, subst, ap₂, ⊎_elim, min, arith}
+use Rattle.std.proofs.lemmas.Bool.{cases_lt, ltb-false, le-ltb, lt-ltb, not-false, and_parts, ltb-true, leb-true}
 use Rattle.std.proofs.lemmas.List.{take_rest, length-drop}
 use Rattle.std.proofs.lemmas.Bool.Decides.{nat_tests}
 use Rattle.line.specs.declared.refusal.Refusal.{Refusal}
+use Rattle.line.specs.declared.refusal.Refusal.TheVariants.{Length}
 use Rattle.line.specs.declared.size.Size.{Size}
 use Rattle.line.specs.Bytes.{two_at, byte_length}
 use Rattle.line.specs.Limits.{most_farms, most_parts, Within, within}
@@ -25,6 +26,19 @@ sizing_whole b s long p q f g =
     let m : within most_parts (two_at b 2) ≡ true = ap (within most_parts) (sym q) ∙ within_yes _ _ g in
     let same : ◌≡◌ {A = Size} (record { farms = two_at b 0; parts = two_at b 2 }) s = ap₂ (λ x y. record { farms = x; parts = y }) (sym p) (sym q) in
     simp (l, n, m) (ap (whole b) same)
+
+-- as many bytes as the size asks for
+pub whole_yes : (b : List ℕ) (s : Size) → length b ≡ byte_length s.farms s.parts → whole b s ≡ Ok s
+whole_yes b s e = simp (le-ltb (length b) (byte_length s.farms s.parts) (omega arith), le-ltb (byte_length s.farms s.parts) (length b) (omega arith))
+
+-- another number of them: the first that is missing, or too many
+pub whole_no : (b : List ℕ) (s : Size) (n : ℕ) → (length b ≡ byte_length s.farms s.parts → ⊥) → n ≡ min (length b) (byte_length s.farms s.parts) → whole b s ≡ Err (Length n)
+whole_no b s n ne e =
+    ⊎_elim
+    (λ (l : length b < byte_length s.farms s.parts). simp (lt-ltb _ _ l) (ap {B = Result Size Refusal} (λ k. Err (Length k)) (let p : length b ≡ n = omega arith in p)))
+    (λ (g : byte_length s.farms s.parts ≤ length b).
+    simp (le-ltb _ _ g, lt-ltb (byte_length s.farms s.parts) (length b) (omega (arith, ne))) (ap {B = Result Size Refusal} (λ k. Err (Length k)) (let p : byte_length s.farms s.parts ≡ n = omega arith in p)))
+    (cases_lt (length b) (byte_length s.farms s.parts))
 
 -- what is known of bytes that tell a size
 pub record Measured (b : List ℕ) (s : Size) : Type 0 where

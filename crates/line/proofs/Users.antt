@@ -1,6 +1,7 @@
 -- How many use a part, counted in its row.
-use Rattle.std.proofs.Common.{◌≡◌, ℕ, zero, suc, ◌+◌, ◌-◌, ◌*◌, ◌/◌, ◌%◌, ◌^◌, ◌<◌, ◌≤◌, Bool, true, false, ◌&&◌, ltb, List, get_or, sym, refl, ap, ◌∙◌, ap₂, add-one, arith}
+use Rattle.std.proofs.Common.{◌≡◌, ℕ, zero, suc, ◌+◌, ◌-◌, ◌*◌, ◌/◌, ◌%◌, ◌^◌, ◌<◌, ◌≤◌, Bool, true, false, ◌&&◌, ltb, List, [], ◌∷◌, length, get_or, sum_by, refl, ap, ◌∙◌, ap₂, add-one, arith}
 use lib.Count.{ones, ones_step, ones-ones}
+use Rattle.std.proofs.lemmas.List.Sums.{sum_by-cons}
 use Rattle.std.proofs.lemmas.Nat.{shr-shr}
 use Rattle.std.proofs.lemmas.Bool.{le-ltb}
 use Rattle.number.specs.Sum.{sum, one, count}
@@ -19,18 +20,28 @@ ones_bits v (suc k) = omega (arith, ones_bits v k, one_has v k, ones_step (v / 2
 ones_count : (v : ℕ) → v < 2 ^ 64 → ones v ≡ count 64 (has v)
 ones_count v h = let z : v / 2 ^ 64 ≡ 0 = omega arith in omega (arith, ones_bits v 64, ap ones z, ones-ones 0)
 
--- one more word of a row
-pub word_more : (r : List ℕ) (k : ℕ) → get_or r k 0 < 2 ^ 64 → count (64 * (k + 1)) (in_row 64 r) ≡ count (64 * k) (in_row 64 r) + ones (get_or r k 0)
-word_more r k h =
-    ap (λ z. count z (in_row 64 r)) (let g : 64 * (k + 1) ≡ 64 + 64 * k = omega arith in g)
-    ∙ sum_append (64 * k) 64 (λ i. one (in_row 64 r i))
-    ∙ ap (λ z. count (64 * k) (in_row 64 r) + z) (sum_same 64 _ _ at ∙ sym (ones_count (get_or r k 0) h))
+-- the bits of a row are the ones of its words
+pub row_ones : (r : List ℕ) → ((k : ℕ) → get_or r k 0 < 2 ^ 64) → sum_by ones r ≡ count (64 * length r) (in_row 64 r)
+unfolding sum
+row_ones [] fits = refl
+row_ones (x ∷ r) fits =
+    let cut : 64 * length (x ∷ r) ≡ 64 * length r + 64 = omega arith in
+    sum_by-cons ones x r
+    ∙ omega (
+      arith,
+      ap (λ z. count z (in_row 64 (x ∷ r))) cut,
+      sum_append 64 (64 * length r) (λ i. one (in_row 64 (x ∷ r) i)),
+      ones_count x (fits 0),
+      sum_same 64 (λ i. one (in_row 64 (x ∷ r) i)) (λ i. one (has x i)) at,
+      sum_same (64 * length r) (λ k. one (in_row 64 (x ∷ r) (64 + k))) (λ k. one (in_row 64 r k)) next,
+      row_ones r (λ k. fits (suc k)),
+    )
   where
-    at : (j : ℕ) → j < 64 → one (in_row 64 r (64 * k + j)) ≡ one (has (get_or r k 0) j)
-    at j l =
-        let q : (64 * k + j) / 64 ≡ k = omega arith in
-        let s : (64 * k + j) % 64 ≡ j = omega arith in
-        ap₂ (λ x y. one (has (get_or r x 0) y)) q s
+    at : (i : ℕ) → i < 64 → one (in_row 64 (x ∷ r) i) ≡ one (has x i)
+    at i l = ap₂ (λ k j. one (has (get_or (x ∷ r) k 0) j)) (let q : i / 64 ≡ 0 = omega arith in q) (let q : i % 64 ≡ i = omega arith in q)
+
+    next : (k : ℕ) → k < 64 * length r → one (in_row 64 (x ∷ r) (64 + k)) ≡ one (in_row 64 r k)
+    next k l = ap₂ (λ i j. one (has (get_or (x ∷ r) i 0) j)) (let q : (64 + k) / 64 ≡ suc (k / 64) = omega arith in q) (let q : (64 + k) % 64 ≡ k % 64 = omega arith in q)
 
 -- the bits of a row without stray bits are the part's users
 pub users_row : (w n m : ℕ) (xs : List ℕ) (e : ℕ) → 0 < w → e < m → stray w n (row (across w n) xs e) ≡ false → count (w * across w n) (in_row w (row (across w n) xs e)) ≡ users (line_of w n m xs) e

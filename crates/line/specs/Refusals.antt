@@ -1,5 +1,7 @@
 -- The number and the place by which a refusal is told.
 use Rattle.std.specs.Prelude.{ℕ, List, ◌++◌, codes, decimal}
+use Rattle.line.specs.declared.refusal.Holder.{Holder}
+use Rattle.line.specs.declared.refusal.Holder.TheVariants.{Farm, Cooperative}
 use Rattle.line.specs.declared.refusal.Lent.{Lent}
 use Rattle.line.specs.declared.refusal.Lent.TheVariants.{Line, Accounts, Costs, Sheet, Answers}
 use Rattle.line.specs.declared.refusal.Refusal.{Refusal}
@@ -38,6 +40,11 @@ place_of (Account at whose) = at
 place_of (Short what) = lent_place what
 place_of (Row at) = at
 place_of (Sum at) = at
+
+-- the text that tells whose account it is
+abbrev pub holder_text : Holder → List ℕ
+holder_text (Farm f) = codes "farm " ++ decimal f.0
+holder_text Cooperative = codes "cooperative"
 
 -- the text that tells a refusal
 abbrev pub told : Refusal → List ℕ

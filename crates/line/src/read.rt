@@ -1,12 +1,15 @@
 // Reading a line from bytes, or refusing it.
 ghost use Rattle.std.specs.Prelude.{◌≡◌, ℕ, ◌+◌, ◌*◌, ◌^◌, ◌<◌, ◌≤◌, length, drop, IfOk, MatchBool, slice_index};
-ghost use Rattle.number.specs.First.{first};
+ghost use Rattle.std.specs.Result.{result_err};
+ghost use Rattle.number.specs.First.{found};
 ghost use Rattle.line.specs.Reading.{sizing, faulty, part_faulty, reading, filled, Taken};
+ghost use Rattle.line.specs.Held.{HasRead};
 ghost use Rattle.line.specs.Rows.{has, in_row, across, word_length, SameRows};
 
 use crate::limits::{MOST_FARMS, MOST_PARTS};
+use crate::line::Line;
 use crate::refusal::{Lent, Refusal};
-use crate::row::row_of;
+use crate::row::copy_rows;
 use crate::size::Size;
 
 // The size that the first four bytes tell, where the number of bytes fits it.
@@ -26,11 +29,8 @@ fn sized(bytes: &[u8]) -> Result<Size, Refusal>
     }
     let size = Size { farms, parts };
     let end = size.bytes();
-    if bytes.len() < end {
-        return Err(Refusal::Length(bytes.len()));
-    }
-    if bytes.len() > end {
-        return Err(Refusal::Length(end));
+    if bytes.len() != end {
+        return Err(Refusal::Length(bytes.len().min(end)));
     }
     Ok(size)
 }
@@ -39,12 +39,7 @@ fn sized(bytes: &[u8]) -> Result<Size, Refusal>
 fn is_blank(bytes: &[u8]) -> bool
     ensures { MatchBool result ((k : ℕ) → slice_index bytes.now k ≡ 0) ((k : ℕ) × (k < length bytes.now) × (0 < slice_index bytes.now k)) }
 {
-    for byte in bytes {
-        if *byte != 0 {
-            return false;
-        }
-    }
-    true
+    bytes.iter().all(|byte| *byte == 0)
 }
 
 // Whether a part's row has a bit that is no farm's, or none at all.
@@ -58,43 +53,27 @@ fn is_faulty(bytes: &[u8], farms: u16) -> bool
     last >> ((farms - 1) % 8) > 1 || is_blank(bytes)
 }
 
-// The first part whose row is faulty, or the number of parts.
-fn first_faulty(bytes: &[u8], size: Size) -> usize
+// The first part whose row is faulty.
+fn first_faulty(bytes: &[u8], size: Size) -> Option<usize>
     requires some { 0 < size.farms }
     requires whole { length bytes.now ≡ size.parts * across 8 size.farms }
-    ensures { result ≡ first size.parts (part_faulty size.farms bytes.now) }
+    ensures { result ≡ found size.parts (part_faulty size.farms bytes.now) }
 {
-    let width = size.row_bytes();
-    for e in 0..size.parts as usize {
-        if is_faulty(row_of(bytes, width, e), size.farms) {
-            return e;
-        }
-    }
-    size.parts as usize
+    bytes
+        .chunks_exact(size.row_bytes())
+        .position(|row| is_faulty(row, size.farms))
 }
 
-// The byte at a place, and 0 past the end.
-fn byte_at(bytes: &[u8], k: usize) -> u8
-    ensures { result ≡ slice_index bytes.now k }
-{
-    if k < bytes.len() { bytes[k] } else { 0 }
-}
-
-// Eight bytes from place k on as one word.
+// The eight bytes from place k on as one word; past the end stand zeros.
 fn word_at(bytes: &[u8], k: usize) -> u64
     requires { k + 8 < 2 ^ 64 }
     ensures { (i : ℕ) → i < 64 → has result i ≡ in_row 8 bytes.now (8 * k + i) }
 {
-    u64::from_le_bytes([
-        byte_at(bytes, k),
-        byte_at(bytes, k + 1),
-        byte_at(bytes, k + 2),
-        byte_at(bytes, k + 3),
-        byte_at(bytes, k + 4),
-        byte_at(bytes, k + 5),
-        byte_at(bytes, k + 6),
-        byte_at(bytes, k + 7),
-    ])
+    let from = k.min(bytes.len());
+    let to = (k + 8).min(bytes.len());
+    let mut eight = [0; 8];
+    eight[..to - from].copy_from_slice(&bytes[from..to]);
+    u64::from_le_bytes(eight)
 }
 
 // Writes a row of bytes as a row of words.
@@ -102,8 +81,8 @@ fn pack_row(bytes: &[u8], words: &mut [u64])
     requires { length words.old < 2 ^ 16 }
     ensures { (i : ℕ) → i < 64 * length words.new → in_row 64 words.new i ≡ in_row 8 bytes.now i }
 {
-    for k in 0..words.len() {
-        words[k] = word_at(bytes, 8 * k);
+    for (k, word) in words.iter_mut().enumerate() {
+        *word = word_at(bytes, 8 * k);
     }
 }
 
@@ -114,12 +93,15 @@ fn pack(bytes: &[u8], size: Size, words: &mut [u64])
     ensures same { SameRows 64 (across 64 size.farms) 8 (across 8 size.farms) size.parts words.new bytes.now }
     ensures rest { drop (word_length size.farms size.parts) words.new ≡ drop (word_length size.farms size.parts) words.old }
 {
-    let from = size.row_bytes();
-    let to = size.row_words();
-    for e in 0..size.parts as usize {
-        let at = e * to;
-        pack_row(row_of(bytes, from, e), &mut words[at..at + to]);
-    }
+    let parts = size.parts as usize;
+    copy_rows(
+        bytes,
+        size.row_bytes(),
+        words,
+        size.row_words(),
+        parts,
+        pack_row,
+    );
 }
 
 // What `read_line` answers where so many words are lent: the size of the line that the bytes mean, or the refusal. Nothing is written.
@@ -127,9 +109,8 @@ pub fn check_line(bytes: &[u8], lent: usize) -> Result<Size, Refusal>
     ensures { result ≡ reading bytes.now lent }
 {
     let size = sized(bytes)?;
-    let fault = first_faulty(&bytes[4..], size);
-    if fault < size.parts as usize {
-        return Err(Refusal::Users(fault));
+    if let Some(part) = first_faulty(&bytes[4..], size) {
+        return Err(Refusal::Users(part));
     }
     if lent < size.words() {
         return Err(Refusal::Short(Lent::Line));
@@ -146,4 +127,15 @@ pub fn read_line(bytes: &[u8], words: &mut [u64]) -> Result<Size, Refusal>
     let size = check_line(bytes, words.len())?;
     pack(&bytes[4..], size, words);
     Ok(size)
+}
+
+impl<'a> Line<'a> {
+    // The line that the bytes mean, kept in the words. Where it is refused, `read_line` alone says what the words hold.
+    pub fn read(bytes: &[u8], words: &'a mut [u64]) -> Result<Line<'a>, Refusal>
+        ensures refused { result_err result ≡ result_err (reading bytes.now (length words.old)) }
+        ensures taken { IfOk result (HasRead bytes.now words.old) }
+    {
+        let size = read_line(bytes, words)?;
+        Ok(Line { size, words })
+    }
 }

@@ -16,7 +16,7 @@ pub enum Lent {
     Answers,
 }
 
-// Whose account or count it is.
+// Whose account or count it is. It is no Option<Farm>, since None would not say the cooperative.
 #[derive(Clone, Copy, PartialEq, Eq, Debug)]
 pub enum Holder {
     Farm(Farm),

@@ -3,6 +3,8 @@ ghost use Rattle.std.specs.Prelude.{◌≡◌};
 ghost use Rattle.line.specs.Bytes.{byte_length};
 ghost use Rattle.line.specs.Rows.{across, word_length};
 
+use crate::limits::{MOST_FARMS, MOST_PARTS};
+
 // The number of farms and the number of parts.
 #[derive(Clone, Copy, PartialEq, Eq, Debug)]
 pub struct Size {
@@ -11,7 +13,13 @@ pub struct Size {
 }
 
 impl Size {
-    // How many words a part's row takes.
+    // The size of the largest line.
+    pub const LARGEST: Size = Size {
+        farms: MOST_FARMS,
+        parts: MOST_PARTS,
+    };
+
+    // How many words a part's row takes. A const parameter for this 64 and the 8 below would have to ask that it is not 0.
     pub fn row_words(self) -> usize
         ensures { result ≡ across 64 self.farms }
     {

@@ -1,8 +1,8 @@
-// How a refusal is told: by its number and its place.
+// How a refusal is told, by its number and its place, and how the holder of an account.
 ghost use Rattle.std.specs.Prelude.{◌≡◌, Some};
-ghost use Rattle.line.specs.Refusals.{lent_place, number_of, place_of, told};
+ghost use Rattle.line.specs.Refusals.{holder_text, lent_place, number_of, place_of, told};
 
-use crate::refusal::{Lent, Refusal};
+use crate::refusal::{Holder, Lent, Refusal};
 use std::fmt;
 
 impl Lent {
@@ -52,12 +52,23 @@ impl Refusal {
     }
 }
 
+impl fmt::Display for Holder {
+    ghost output = { λ h. Some (holder_text h) };
+
+    fn fmt<W: fmt::Write>(&self, f: &mut fmt::Formatter<W>) -> fmt::Result {
+        match self {
+            Holder::Farm(farm) => write!(f, "farm {}", farm.0),
+            Holder::Cooperative => write!(f, "cooperative"),
+        }
+    }
+}
+
+impl std::error::Error for Refusal {}
+
 impl fmt::Display for Refusal {
     ghost output = { λ r. Some (told r) };
 
     fn fmt<W: fmt::Write>(&self, f: &mut fmt::Formatter<W>) -> fmt::Result {
-        let number = self.number();
-        let place = self.place();
-        write!(f, "refused {number} at {place}")
+        write!(f, "refused {} at {}", self.number(), self.place())
     }
 }

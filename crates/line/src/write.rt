@@ -6,7 +6,7 @@ ghost use Rattle.line.specs.Rows.{in_row, across, word_length, SameRows};
 
 use crate::line::Line;
 use crate::refusal::{Lent, Refusal};
-use crate::row::row_of;
+use crate::row::copy_rows;
 use crate::size::Size;
 
 // Writes the front of a row of words as a row of bytes.
@@ -14,8 +14,8 @@ fn unpack_row(words: &[u64], bytes: &mut [u8])
     requires { length bytes.old ≤ 8 * length words.now }
     ensures { (i : ℕ) → i < 8 * length bytes.new → in_row 8 bytes.new i ≡ in_row 64 words.now i }
 {
-    for k in 0..bytes.len() {
-        bytes[k] = (words[k / 8] >> (8 * (k % 8)) & 0xff) as u8;
+    for (k, byte) in bytes.iter_mut().enumerate() {
+        *byte = (words[k / 8] >> (8 * (k % 8)) & 0xff) as u8;
     }
 }
 
@@ -26,12 +26,15 @@ fn unpack(words: &[u64], size: Size, bytes: &mut [u8])
     ensures same { SameRows 8 (across 8 size.farms) 64 (across 64 size.farms) size.parts bytes.new words.now }
     ensures rest { drop (size.parts * across 8 size.farms) bytes.new ≡ drop (size.parts * across 8 size.farms) bytes.old }
 {
-    let from = size.row_words();
-    let to = size.row_bytes();
-    for e in 0..size.parts as usize {
-        let at = e * to;
-        unpack_row(row_of(words, from, e), &mut bytes[at..at + to]);
-    }
+    let parts = size.parts as usize;
+    copy_rows(
+        words,
+        size.row_words(),
+        bytes,
+        size.row_bytes(),
+        parts,
+        unpack_row,
+    );
 }
 
 impl Line<'_> {
@@ -46,12 +49,8 @@ impl Line<'_> {
         if bytes.len() < end {
             return Err(Refusal::Short(Lent::Line));
         }
-        let [n0, n1] = size.farms.to_le_bytes();
-        let [m0, m1] = size.parts.to_le_bytes();
-        bytes[0] = n0;
-        bytes[1] = n1;
-        bytes[2] = m0;
-        bytes[3] = m1;
+        bytes[..2].copy_from_slice(&size.farms.to_le_bytes());
+        bytes[2..4].copy_from_slice(&size.parts.to_le_bytes());
         unpack(self.words, size, &mut bytes[4..]);
         Ok(end)
     }

@@ -3,7 +3,7 @@
 
 #[cfg(test)]
 mod tests {
-    use line::limits::{MOST_FARMS, MOST_PARTS};
+    use line::limits::MOST_FARMS;
     use line::line::Line;
     use line::names::{Farm, Part};
     use line::read::read_line;
@@ -73,10 +73,9 @@ mod tests {
     // Reads the line of so many farms into lent words, asks about every farm and part, and writes it again.
     fn round(rt: &impl Abort, heap: Global, farms: u16, words: &mut [u64]) -> Result<(), Fail> {
         let given = bytes(heap, farms)?;
-        let size = read_line(given.as_slice(), words)?;
-        assert_eq!(rt; size.farms, farms);
-        assert_eq!(rt; size.parts, 3);
-        let line = Line { size, words };
+        let line = Line::read(given.as_slice(), words)?;
+        assert_eq!(rt; line.size.farms, farms);
+        assert_eq!(rt; line.size.parts, 3);
         for part in 0..5u16 {
             part_agrees(rt, &line, farms, part);
         }
@@ -85,11 +84,7 @@ mod tests {
 
     #[test]
     fn sizes(rt: HostRuntime) -> Result<(), Fail> {
-        let most = Size {
-            farms: MOST_FARMS,
-            parts: MOST_PARTS,
-        };
-        let mut words = vec![in rt.alloc(); 7u64; most.words()]?;
+        let mut words = vec![in rt.alloc(); 7u64; Size::LARGEST.words()]?;
         for farms in [1u16, 8, 9, 63, 64, 65, MOST_FARMS] {
             round(&rt, rt.alloc(), farms, words.as_mut_slice())?;
         }

@@ -1,9 +1,9 @@
-use Rattle.std.proofs.Common.{◌≡◌, ℕ, ◌-◌, ◌<◌, ◌≤◌, List, length, take, drop, Err, Result, sym, ap, ◌∙◌, subst, arith, rules}
+use Rattle.std.proofs.Common.{◌≡◌, ℕ, ◌-◌, ◌≤◌, List, length, take, drop, Option, Err, Result, sym, ap, ◌∙◌, arith, rules}
 use Rattle.std.proofs.lemmas.List.{take_rest}
 use Rattle.std.proofs.lemmas.Result.{err_from_is_err_and}
-use Rattle.number.specs.First.{first}
+use Rattle.number.specs.First.{found}
+use Rattle.number.proofs.Positions.{found_none}
 use Rattle.line.specs.declared.refusal.Refusal.{Refusal}
-use Rattle.line.specs.declared.refusal.Refusal.TheVariants.{Users}
 use Rattle.line.specs.declared.size.Size.{Size}
 use Rattle.line.specs.Reading.{part_faulty}
 use Rattle.line.proofs.Answering.{reading_err, reading_ok, fitting_fault, fitting_short, fitting_ok}
@@ -27,31 +27,27 @@ slice_bounds-first_faulty-count c = omega (arith, (told c).whole)
 pub slice_bounds-first_faulty-start : goal.slice_bounds-first_faulty-start
 slice_bounds-first_faulty-start c = let h : 4 ≤ length c.args.bytes.now = omega (arith, (told c).whole) in search rules
 
-pub first_faulty-fault-requires : goal.first_faulty-fault-requires
-first_faulty-fault-requires c = let d = measured _ _ (sym c.in_ok-size.ensures) in record { some = d.farms.0; whole = rows_long _ _ d }
+pub first_faulty-requires : goal.first_faulty-requires
+first_faulty-requires c = let d = measured _ _ (sym c.in_ok-size.ensures) in record { some = d.farms.0; whole = rows_long _ _ d }
 
--- the first faulty part
-found : (b : List ℕ) (s : Size) (k : ℕ) → k ≡ first s.parts (part_faulty s.farms (take (length b - 4) (drop 4 b))) → k ≡ first s.parts (part_faulty s.farms (drop 4 b))
-found b s k h = h ∙ ap (λ (xs : List ℕ). first s.parts (part_faulty s.farms xs)) (take_rest b 4)
+-- the first faulty part of the rows
+fault : (b : List ℕ) (s : Size) (r : Option ℕ) → r ≡ found s.parts (part_faulty s.farms (take (length b - 4) (drop 4 b))) → found s.parts (part_faulty s.farms (drop 4 b)) ≡ r
+fault b s r h = sym (h ∙ ap (λ (xs : List ℕ). found s.parts (part_faulty s.farms xs)) (take_rest b 4))
 
-pub returns-then-fault-size : goal.returns-then-fault-size
-returns-then-fault-size c =
+pub returns-in-Some : goal.returns-in-Some
+returns-in-Some c =
     let b = c.args.bytes.now in
     let s = c.in_ok-size.size in
-    let k = found b s _ c.first_faulty-fault.ensures in
-    sym (reading_ok b c.args.lent s (sym c.in_ok-size.ensures) ∙ fitting_fault (drop 4 b) _ s (subst (λ x. x < s.parts) k c.if-fault-size.true)
-    ∙ ap {B = Result Size Refusal} (λ x. Err (Users x)) (sym k))
+    sym (reading_ok b c.args.lent s (sym c.in_ok-size.ensures) ∙ fitting_fault (drop 4 b) _ s c.in-Some.part (fault b s _ c.in-Some.ensures))
 
 pub returns-then-lent-words : goal.returns-then-lent-words
 returns-then-lent-words c =
     let b = c.args.bytes.now in
     let s = c.in_ok-size.size in
-    let k = found b s _ c.first_faulty-fault.ensures in
-    sym (reading_ok b c.args.lent s (sym c.in_ok-size.ensures) ∙ fitting_short (drop 4 b) _ s (omega arith) (omega arith))
+    sym (reading_ok b c.args.lent s (sym c.in_ok-size.ensures) ∙ fitting_short (drop 4 b) _ s (found_none _ _ (fault b s _ c.in_default.ensures)) (omega arith))
 
 pub returns : goal.returns
 returns c =
     let b = c.args.bytes.now in
     let s = c.in_ok-size.size in
-    let k = found b s _ c.first_faulty-fault.ensures in
-    sym (reading_ok b c.args.lent s (sym c.in_ok-size.ensures) ∙ fitting_ok (drop 4 b) _ s (omega arith) (omega arith))
+    sym (reading_ok b c.args.lent s (sym c.in_ok-size.ensures) ∙ fitting_ok (drop 4 b) _ s (found_none _ _ (fault b s _ c.in_default.ensures)) (omega arith))

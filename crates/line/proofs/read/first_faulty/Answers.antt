@@ -1,37 +1,21 @@
-use Rattle.std.proofs.Common.{◌≡◌, ℕ, ◌*◌, ◌≤◌, Bool, List, length, sym, ap, ◌∙◌, arith, below_more}
-use Rattle.number.proofs.Firsts.{first_is, first_none}
+use Rattle.std.proofs.Common.{◌≡◌, ◌+◌, ◌*◌, ◌/◌, ◌<◌, length, sym, ap, subst, ◌∙◌, arith, rules, tests}
+use Rattle.std.specs.Simd.{first_chunks}
+use Rattle.std.proofs.lemmas.Iterator.Search.{position_from_yields_List}
+use Rattle.std.proofs.lemmas.Nat.{div-mul-add}
+use Rattle.number.proofs.Positions.{position_found}
 use Rattle.line.specs.Reading.{faulty, part_faulty}
-use Rattle.line.specs.Rows.{across, row}
-use Rattle.line.proofs.Rows.{row_room, row_whole}
+use Rattle.line.specs.Rows.{across}
+use Rattle.line.proofs.Chunks.{chunks_length, chunks_at, YieldsList-from_chunks_exact}
 use Rattle.line.proofs.read.first_faulty.Goals as goal
 
-pub row_of-requires : goal.row_of-requires
-row_of-requires c =
-    let all : c.args.size.parts * c.row_bytes-width.result ≤ length c.args.bytes.now = rw c.row_bytes-width.ensures (omega (arith, c.requires.whole)) in
-    row_room _ _ c.row_bytes-width.result _ c.loop-e-test.true all
-
-pub is_faulty-requires : goal.is_faulty-requires
-is_faulty-requires c =
-    let n = c.args.size.farms in
-    let b = c.args.bytes.now in
-    record {
-      some = c.requires.some;
-      whole =
-          ap length (c.row_of.ensures ∙ ap (λ a. row a b c.loop-e.e) c.row_bytes-width.ensures)
-          ∙ row_whole c.loop-e.e c.args.size.parts (across 8 n) b c.loop-e-test.true (omega (arith, c.requires.whole));
-    }
-
--- what the row that was looked at says of its part
-here : (n e a : ℕ) (b r : List ℕ) (t : Bool) → t ≡ faulty n r → r ≡ row a b e → a ≡ across 8 n → t ≡ part_faulty n b e
-here n e a b r t p q s = p ∙ ap (faulty n) (q ∙ ap (λ x. row x b e) s)
-
-pub returns-then-is_faulty : goal.returns-then-is_faulty
-returns-then-is_faulty c =
-    sym (first_is _ _ c.loop-e.e c.loop-e-test.true (sym (here _ _ _ _ _ _ c.is_faulty.ensures c.row_of.ensures c.row_bytes-width.ensures) ∙ c.if-is_faulty.true) c.loop-e.invariant)
-
-pub loop-e-preserved : goal.loop-e-preserved
-loop-e-preserved c =
-    below_more _ _ c.loop-e.invariant (sym (here _ _ _ _ _ _ c.is_faulty.ensures c.row_of.ensures c.row_bytes-width.ensures) ∙ c.if-is_faulty.false)
-
 pub returns : goal.returns
-returns c = sym (first_none _ _ (λ k l. c.loop-e.invariant k (omega arith)))
+returns c =
+    let n = c.args.size.farms in
+    let m = c.args.size.parts in
+    let b = c.args.bytes.now in
+    let w = across 8 n in
+    let some : 0 < w = omega (arith, c.requires.some) in
+    let whole : length b / w ≡ m = ap (λ x. x / w) (let p : length b ≡ m * w + 0 = omega (arith, c.requires.whole) in p) ∙ div-mul-add m w 0 some in
+    let size : c.row_bytes.result ≡ w = c.row_bytes.ensures in
+    position_from_yields_List (faulty n) _ _ _ c.position.ensures.ran (YieldsList-from_chunks_exact w b c.chunks_exact.ensures.rest (c.chunks_exact.ensures.size ∙ size) some) (λ x r q k. search (rules, tests))
+    ∙ position_found (faulty n) (first_chunks w (length b / w) b) m (part_faulty n b) (chunks_length w _ b ∙ whole) (λ e d l. ap (faulty n) (chunks_at w (length b / w) b e d (subst (λ k. e < k) (sym whole) l)))

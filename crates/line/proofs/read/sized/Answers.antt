@@ -1,10 +1,10 @@
 use Rattle.std.proofs.Common.{◌≡◌, false, ltb, length, sym, ◌∙◌, ⊎_elim, arith}
 use Rattle.std.proofs.lemmas.Bool.{le-ltb, lt-ltb, ltb-true, ltb-false}
 use Rattle.line.specs.declared.size.Size.{Size}
-use Rattle.line.specs.Bytes.{two_at, byte_length}
+use Rattle.line.specs.Bytes.{two_at}
 use Rattle.line.specs.Limits.{most_farms, most_parts, within}
 use Rattle.line.specs.Reading.{sizing}
-use Rattle.line.proofs.Sizing.{within_yes, within_no, sizing_whole}
+use Rattle.line.proofs.Sizing.{within_yes, within_no, sizing_whole, whole_yes, whole_no}
 use Rattle.line.proofs.read.sized.Goals as goal
 
 pub returns-in_default : goal.returns-in_default
@@ -33,23 +33,11 @@ unfolding most_farms most_parts
 returns-then-bytes-end c =
     let s : Size = record { farms = c.from_le_bytes-farms.result; parts = c.from_le_bytes-parts.result } in
     let is = sizing_whole c.args.bytes.now s (omega (arith, ltb-false)) c.from_le_bytes-farms.ensures c.from_le_bytes-parts.ensures (omega arith, omega arith) (omega arith, omega arith) in
-    let short = lt-ltb (length c.args.bytes.now) (byte_length s.farms s.parts) (omega arith) in
-    sym (is ∙ simp short)
-
-pub returns-then-bytes-end-2 : goal.returns-then-bytes-end-2
-unfolding most_farms most_parts
-returns-then-bytes-end-2 c =
-    let s : Size = record { farms = c.from_le_bytes-farms.result; parts = c.from_le_bytes-parts.result } in
-    let is = sizing_whole c.args.bytes.now s (omega (arith, ltb-false)) c.from_le_bytes-farms.ensures c.from_le_bytes-parts.ensures (omega arith, omega arith) (omega arith, omega arith) in
-    let enough = le-ltb (length c.args.bytes.now) (byte_length s.farms s.parts) (omega arith) in
-    let more = lt-ltb (byte_length s.farms s.parts) (length c.args.bytes.now) (omega arith) in
-    sym (is ∙ simp (enough, more, c.bytes-end.ensures))
+    sym (is ∙ whole_no c.args.bytes.now s c.min.result (λ e. c.if-bytes-end.true (e ∙ sym c.bytes-end.ensures)) (omega arith))
 
 pub returns : goal.returns
 unfolding most_farms most_parts
 returns c =
     let s : Size = record { farms = c.from_le_bytes-farms.result; parts = c.from_le_bytes-parts.result } in
     let is = sizing_whole c.args.bytes.now s (omega (arith, ltb-false)) c.from_le_bytes-farms.ensures c.from_le_bytes-parts.ensures (omega arith, omega arith) (omega arith, omega arith) in
-    let enough = le-ltb (length c.args.bytes.now) (byte_length s.farms s.parts) (omega arith) in
-    let no_more = le-ltb (byte_length s.farms s.parts) (length c.args.bytes.now) (omega arith) in
-    sym (is ∙ simp (enough, no_more))
+    sym (is ∙ whole_yes c.args.bytes.now s (omega arith))
