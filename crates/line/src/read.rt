@@ -93,13 +93,12 @@ fn pack(bytes: &[u8], size: Size, words: &mut [u64])
     ensures same { SameRows 64 (across 64 size.farms) 8 (across 8 size.farms) size.parts words.new bytes.now }
     ensures rest { drop (word_length size.farms size.parts) words.new ≡ drop (word_length size.farms size.parts) words.old }
 {
-    let parts = size.parts as usize;
     copy_rows(
         bytes,
         size.row_bytes(),
         words,
         size.row_words(),
-        parts,
+        size.parts as usize,
         pack_row,
     );
 }

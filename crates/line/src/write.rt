@@ -26,13 +26,12 @@ fn unpack(words: &[u64], size: Size, bytes: &mut [u8])
     ensures same { SameRows 8 (across 8 size.farms) 64 (across 64 size.farms) size.parts bytes.new words.now }
     ensures rest { drop (size.parts * across 8 size.farms) bytes.new ≡ drop (size.parts * across 8 size.farms) bytes.old }
 {
-    let parts = size.parts as usize;
     copy_rows(
         words,
         size.row_words(),
         bytes,
         size.row_bytes(),
-        parts,
+        size.parts as usize,
         unpack_row,
     );
 }

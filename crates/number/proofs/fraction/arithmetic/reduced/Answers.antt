@@ -1,13 +1,6 @@
 use Rattle.std.proofs.Common.{inl, inr, arith}
-use Rattle.number.proofs.Euclid.{greatest_pos}
 use Rattle.number.proofs.LowestTerms.{divided_least, divided_lowest, divided_pos, divided_same}
 use Rattle.number.proofs.fraction.arithmetic.reduced.Goals as goal
-
-pub nonzero_div-least_top : goal.nonzero_div-least_top
-nonzero_div-least_top c = greatest_pos _ _ _ c.requires c.wide_gcd-common.ensures
-
-pub nonzero_div-least_bottom : goal.nonzero_div-least_bottom
-nonzero_div-least_bottom c = greatest_pos _ _ _ c.requires c.wide_gcd-common.ensures
 
 pub invariant_of-result : goal.invariant_of-result
 invariant_of-result c =
