@@ -1,11 +1,11 @@
 -- What a change answers, and what it leaves.
-use Rattle.std.proofs.Common.{◌≡◌, ℕ, ◌+◌, ◌<◌, ◌≤◌, Bool, true, false, cond, not, ◌&&◌, eqb, leb, ◌≢◌, List, Some, None, Err, Option, sym, refl, ap, ◌∙◌, subst, inl, inr, arith}
-use Rattle.std.proofs.lemmas.Bool.{cases_eq, le-leb, lt-leb, eq-eqb, ne_eqb}
+use Rattle.std.proofs.Common.{◌≡◌, ℕ, ◌+◌, ◌<◌, Bool, true, false, cond, not, ◌&&◌, eqb, ◌≢◌, List, Some, None, Err, Option, sym, refl, ap, ◌∙◌, subst, inl, inr, arith}
+use Rattle.std.proofs.lemmas.Bool.{cases_eq, eq-eqb, ne_eqb}
 use Rattle.std.proofs.lemmas.Bool.Decides.{nat_tests}
 use Rattle.number.specs.Sum.{one}
 use Rattle.number.proofs.Sums.{sum_same, sum_add, sum_at}
 use Rattle.line.specs.declared.refusal.Refusal.{Refusal}
-use Rattle.line.specs.declared.refusal.Refusal.TheVariants.{Users, Unknown}
+use Rattle.line.specs.declared.refusal.Refusal.TheVariants.{Users}
 use Rattle.line.specs.declared.line.Line.{Line as Over}
 use Rattle.line.specs.Held.{held}
 use Rattle.line.specs.Line.{Line, users}
@@ -13,32 +13,26 @@ use Rattle.line.specs.Rows.{line_of}
 use Rattle.line.specs.Sound.{Used}
 use Rattle.share.specs.Weight.{AllUsed}
 use Rattle.change.specs.Answer.{Joined, Parted}
-use Rattle.change.specs.Change.{joined, parted, only_user, known_or, join_refused, leave_refused}
+use Rattle.change.specs.Change.{marked, joined, parted, only_user, known_or, join_refused, leave_refused}
 use Rattle.change.proofs.Growth.{same_uses, stays, joining_raises_none_lem, leaving_lowers_none_lem}
 use Rattle.change.proofs.Marks.{or_is, and_not_is}
-use Rattle.change.proofs.Putting.{marked}
 
--- the answer
-pub no_part : (l : Line) (i e : ℕ) (x : Option Refusal) → l.parts ≤ e → Some (Unknown e) ≡ known_or l i e x
+-- a part and a farm that are not refused are the line's
+pub known_both : (l : Line) (i e : ℕ) → None ≡ known_or l i e None → (e < l.parts) × (i < l.farms)
 unfolding known_or
-no_part l i e x h = let p : leb l.parts e ≡ true = le-leb _ _ h in simp p refl
+known_both l i e h = grind arith
 
-pub no_farm : (l : Line) (i e : ℕ) (x : Option Refusal) → e < l.parts → l.farms ≤ i → Some (Unknown i) ≡ known_or l i e x
+-- what else is said of them, where they are not refused, and what is refused of them, whatever else is said
+pub known : (l : Line) (i e : ℕ) (x : Option Refusal) → None ≡ known_or l i e None → x ≡ known_or l i e x
 unfolding known_or
-no_farm l i e x k h =
-    let p : leb l.parts e ≡ false = lt-leb _ _ k in
-    let q : leb l.farms i ≡ true = le-leb _ _ h in
-    simp (p, q) refl
+known l i e x h = grind arith
 
-pub known : (l : Line) (i e : ℕ) (x : Option Refusal) → e < l.parts → i < l.farms → x ≡ known_or l i e x
+pub unknown : (l : Line) (i e : ℕ) (r : Refusal) (x : Option Refusal) → Some r ≡ known_or l i e None → Some r ≡ known_or l i e x
 unfolding known_or
-known l i e x k h =
-    let p : leb l.parts e ≡ false = lt-leb _ _ k in
-    let q : leb l.farms i ≡ false = lt-leb _ _ h in
-    simp (p, q) refl
+unknown l i e r x h = grind arith
 
-pub leave_answer : (l : Line) (i e : ℕ) (t : Bool) → t ≡ only_user l i e → e < l.parts → i < l.farms → cond t (Some (Users e)) None ≡ leave_refused l i e
-leave_answer l i e t h k f = ap (λ b. cond b (Some (Users e)) None) h ∙ known l i e _ k f
+pub leave_answer : (l : Line) (i e : ℕ) (t : Bool) → t ≡ only_user l i e → None ≡ known_or l i e None → cond t (Some (Users e)) None ≡ leave_refused l i e
+leave_answer l i e t h k = ap (λ b. cond b (Some (Users e)) None) h ∙ known l i e _ k
 
 -- where the answer is a refusal all is as it was
 pub refused_join : (i e : ℕ) (line : Over) (x : Refusal) → Some x ≡ join_refused (held line) i e → Joined i e line line (Err x)

@@ -5,16 +5,12 @@ use Rattle.std.proofs.lemmas.List.{length-take-le, length-drop, length-append, d
 use Rattle.std.proofs.lemmas.Slice.{take-put_mid_below, drop-put_mid}
 use Rattle.std.proofs.lemmas.Bool.{cases_eq, cases_lt, and_parts, eqb-true, eq-eqb, ne_eqb, lt-ltb}
 use Rattle.number.proofs.Firsts.{none_from, each_fails}
-use Rattle.line.specs.Line.{Line}
 use Rattle.line.specs.Rows.{in_row, across, row, line_of, word_length}
 use Rattle.line.specs.Sound.{Room, Clear}
 use Rattle.line.proofs.Rows.{row_room, row_whole}
 use Rattle.change.specs.Answer.{WithBit}
+use Rattle.change.specs.Change.{marked}
 use Rattle.change.proofs.Growth.{same_uses}
-
--- the line where x says whether farm i uses part e
-abbrev pub marked : Line → (i e : ℕ) → Bool → Line
-marked l i e x = record { farms = l.farms; parts = l.parts; uses = λ j f. cond (eqb j i && eqb f e) x (l.uses j f) }
 
 -- xs where r is written as row e
 abbrev put : (a e : ℕ) → (xs r : List ℕ) → List ℕ

@@ -12,6 +12,10 @@ joined l i e = record { farms = l.farms; parts = l.parts; uses = λ j f. l.uses 
 abbrev pub parted : Line → (i e : ℕ) → Line
 parted l i e = record { farms = l.farms; parts = l.parts; uses = λ j f. l.uses j f && not (j == i && f == e) }
 
+-- the line where x says whether farm i uses part e
+abbrev pub marked : Line → (i e : ℕ) → Bool → Line
+marked l i e x = record { farms = l.farms; parts = l.parts; uses = λ j f. cond (j == i && f == e) x (l.uses j f) }
+
 -- l' is l, but that farm i uses more parts, or is new, with the next number
 pub record Grows (i : ℕ) (l l' : Line) : Type 0 where
   pub parts : l'.parts ≡ l.parts

@@ -1,27 +1,54 @@
 // A farm joins a part of the line, or leaves it.
-ghost use Rattle.std.specs.Prelude.{◌≡◌, ◌/◌, ◌<◌, true, false, length};
+ghost use Rattle.std.specs.Prelude.{◌≡◌, ◌/◌, ◌<◌, None, length};
+ghost use Rattle.std.specs.Result.{result_err};
 ghost use Rattle.line.specs.Held.{held};
-ghost use Rattle.change.specs.Answer.{WithBit, Joined, Parted};
-ghost use Rattle.change.specs.Change.{only_user};
+ghost use Rattle.share.specs.Weight.{AllUsed};
+ghost use Rattle.change.specs.Answer.{WithBit, Kept, Joined, Parted};
+ghost use Rattle.change.specs.Change.{marked, only_user, known_or};
 
 use line::line::Line;
 use line::names::{Farm, Part};
 use line::refusal::Refusal;
 
-// Sets the farm's bit in a part's row.
-fn set_user(row: &mut [u64], farm: Farm)
+// Sets or clears the farm's bit in a part's row.
+fn mark(row: &mut [u64], farm: Farm, uses: bool)
     requires { farm.0 / 64 < length row.old }
-    ensures { WithBit row.old row.new farm.0 true }
+    ensures { WithBit row.old row.new farm.0 uses }
 {
-    row[farm.0 as usize / 64] |= 1u64 << (farm.0 % 64);
+    let k = farm.0 as usize / 64;
+    let bit = 1u64 << (farm.0 % 64);
+    if uses {
+        row[k] |= bit;
+    } else {
+        row[k] &= !bit;
+    }
 }
 
-// Clears the farm's bit in a part's row.
-fn clear_user(row: &mut [u64], farm: Farm)
-    requires { farm.0 / 64 < length row.old }
-    ensures { WithBit row.old row.new farm.0 false }
+// Writes whether a farm of the line uses a part of it; each part needs a user then.
+fn write_use(line: &mut Line, farm: Farm, part: Part, uses: bool)
+    requires farm { farm.0 < line.old.size.farms }
+    requires part { part.0 < line.old.size.parts }
+    requires used { AllUsed (marked (held line.old) farm.0 part.0 uses) }
+    ensures holds { held line.new ≡ marked (held line.old) farm.0 part.0 uses }
+    ensures kept { Kept line.old line.new }
 {
-    row[farm.0 as usize / 64] &= !(1u64 << (farm.0 % 64));
+    let width = line.size.row_words();
+    let from = part.0 as usize * width;
+    let Line { words, .. } = line;
+    mark(&mut words[from..from + width], farm, uses);
+}
+
+// Refuses a part that is not one of the line's, then a farm that is not.
+fn check_names(line: &Line, farm: Farm, part: Part) -> Result<(), Refusal>
+    ensures { result_err result ≡ known_or (held line.now) farm.0 part.0 None }
+{
+    if part.0 >= line.size.parts {
+        return Err(Refusal::Unknown(part.0 as usize));
+    }
+    if farm.0 >= line.size.farms {
+        return Err(Refusal::Unknown(farm.0 as usize));
+    }
+    Ok(())
 }
 
 // Whether the farm uses the part, and no other does.
@@ -35,16 +62,8 @@ fn is_only_user(line: &Line, farm: Farm, part: Part) -> bool
 pub fn join(line: &mut Line, farm: Farm, part: Part) -> Result<(), Refusal>
     ensures { Joined farm.0 part.0 line.old line.new result }
 {
-    if part.0 >= line.size.parts {
-        return Err(Refusal::Unknown(part.0 as usize));
-    }
-    if farm.0 >= line.size.farms {
-        return Err(Refusal::Unknown(farm.0 as usize));
-    }
-    let width = line.size.row_words();
-    let from = part.0 as usize * width;
-    let Line { words, .. } = line;
-    set_user(&mut words[from..from + width], farm);
+    check_names(line, farm, part)?;
+    write_use(line, farm, part, true);
     Ok(())
 }
 
@@ -52,18 +71,10 @@ pub fn join(line: &mut Line, farm: Farm, part: Part) -> Result<(), Refusal>
 pub fn leave(line: &mut Line, farm: Farm, part: Part) -> Result<(), Refusal>
     ensures { Parted farm.0 part.0 line.old line.new result }
 {
-    if part.0 >= line.size.parts {
-        return Err(Refusal::Unknown(part.0 as usize));
-    }
-    if farm.0 >= line.size.farms {
-        return Err(Refusal::Unknown(farm.0 as usize));
-    }
+    check_names(line, farm, part)?;
     if is_only_user(line, farm, part) {
         return Err(Refusal::Users(part.0 as usize));
     }
-    let width = line.size.row_words();
-    let from = part.0 as usize * width;
-    let Line { words, .. } = line;
-    clear_user(&mut words[from..from + width], farm);
+    write_use(line, farm, part, false);
     Ok(())
 }

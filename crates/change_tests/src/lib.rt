@@ -9,15 +9,13 @@ mod tests {
     use line::names::{Farm, Part};
     use line::read::read_line;
     use line::refusal::Refusal;
+    use std::alloc::{AllocError, Global};
     use std::ops::Range;
     use std::process::Abort;
     use std::test::Fail;
 
     // More words than the largest of these lines takes.
     const LENT: usize = 23;
-
-    // The bytes of a line of at most 400 farms and of three parts.
-    const BYTES: usize = 154;
 
     // The first part is used by farm 0, the second by the last farm, the third by farms 0 and 1.
     fn row_byte(part: usize, k: usize, last: usize) -> u8 {
@@ -29,23 +27,16 @@ mod tests {
     }
 
     // That line's bytes.
-    fn bytes(farms: u16) -> [u8; BYTES] {
-        let mut out = [0u8; BYTES];
+    fn bytes(alloc: Global, farms: u16) -> Result<Vec<u8>, AllocError> {
         let [low, high] = farms.to_le_bytes();
-        out[0] = low;
-        out[1] = high;
-        out[2] = 3;
-        let width = (farms as usize).div_ceil(8);
-        for at in 4..BYTES {
-            if width > 0 {
-                out[at] = row_byte(
-                    (at - 4) / width,
-                    (at - 4) % width,
-                    (farms as usize).saturating_sub(1),
-                );
+        let mut out = vec![in alloc; low, high, 3, 0]?;
+        let last = (farms as usize).saturating_sub(1);
+        for part in 0..3 {
+            for k in 0..(farms as usize).div_ceil(8) {
+                out.push(row_byte(part, k, last))?;
             }
         }
-        out
+        Ok(out)
     }
 
     // The words are these, also those past the line.
@@ -55,20 +46,18 @@ mod tests {
     }
 
     // One call, its answer, and the words after it.
-    fn step(
+    fn step<F: FnOnce(&mut Line, Farm, Part) -> Result<(), Refusal>>(
         rt: &impl Abort,
         line: &mut Line,
-        joins: bool,
+        call: F,
         farm: u16,
         part: u16,
         answer: Result<(), Refusal>,
         words: &[u64],
-    ) {
-        let given = if joins {
-            join(line, Farm(farm), Part(part))
-        } else {
-            leave(line, Farm(farm), Part(part))
-        };
+    )
+        requires { F.IsAlwaysCallable call }
+    {
+        let given = call(line, Farm(farm), Part(part));
         assert_eq!(rt; given, answer);
         words_are(rt, line, words);
     }
@@ -78,14 +67,15 @@ mod tests {
         let width = (line.size.farms as usize).div_ceil(64);
         let at = part as usize * width + farm as usize / 64;
         assert!(rt; at < words.len());
-        for joins in [false, true, true, false, false] {
-            if joins {
-                words[at] |= 1u64 << (farm % 64);
-            } else {
-                words[at] &= !(1u64 << (farm % 64));
-            }
-            step(rt, line, joins, farm, part, Ok(()), words);
-        }
+        let bit = 1u64 << (farm % 64);
+        words[at] &= !bit;
+        step(rt, line, leave, farm, part, Ok(()), words);
+        words[at] |= bit;
+        step(rt, line, join, farm, part, Ok(()), words);
+        step(rt, line, join, farm, part, Ok(()), words);
+        words[at] &= !bit;
+        step(rt, line, leave, farm, part, Ok(()), words);
+        step(rt, line, leave, farm, part, Ok(()), words);
     }
 
     // So do these farms, one after the other.
@@ -103,20 +93,18 @@ mod tests {
 
     // What is refused leaves the words: an unknown part, then an unknown farm, then that the only user leaves.
     fn refusals(rt: &impl Abort, line: &mut Line, farms: u16, words: &[u64]) {
-        let unknown = Refusal::Unknown(farms as usize);
-        for (joins, farm, part, refusal) in [
-            (true, farms, 3, Refusal::Unknown(3)),
-            (false, farms, 3, Refusal::Unknown(3)),
-            (true, 0, 3, Refusal::Unknown(3)),
-            (false, 0, 3, Refusal::Unknown(3)),
-            (true, 65535, 65535, Refusal::Unknown(65535)),
-            (true, farms, 0, unknown),
-            (false, farms, 0, unknown),
-            (false, 65535, 0, Refusal::Unknown(65535)),
-            (false, 0, 0, Refusal::Users(0)),
-        ] {
-            step(rt, line, joins, farm, part, Err(refusal), words);
-        }
+        let no_part = Err(Refusal::Unknown(3));
+        let no_farm = Err(Refusal::Unknown(farms as usize));
+        let neither = Err(Refusal::Unknown(65535));
+        step(rt, line, join, farms, 3, no_part, words);
+        step(rt, line, leave, farms, 3, no_part, words);
+        step(rt, line, join, 0, 3, no_part, words);
+        step(rt, line, leave, 0, 3, no_part, words);
+        step(rt, line, join, 65535, 65535, neither, words);
+        step(rt, line, join, farms, 0, no_farm, words);
+        step(rt, line, leave, farms, 0, no_farm, words);
+        step(rt, line, leave, 65535, 0, neither, words);
+        step(rt, line, leave, 0, 0, Err(Refusal::Users(0)), words);
     }
 
     // The only user of the second part leaves it once another has joined, who then can't; of the two users of the third one leaves, and the other can't.
@@ -132,12 +120,10 @@ mod tests {
     }
 
     // All of that on a line of so many farms.
-    fn round(rt: &impl Abort, farms: u16) -> Result<(), Fail> {
-        let given = bytes(farms);
-        let end = 4 + 3 * (farms as usize).div_ceil(8);
-        assert!(rt; end <= BYTES);
+    fn round(rt: &impl Abort, alloc: Global, farms: u16) -> Result<(), Fail> {
+        let given = bytes(alloc, farms)?;
         let mut lent = [7u64; LENT];
-        let size = read_line(&given[0..end], &mut lent)?;
+        let size = read_line(&given, &mut lent)?;
         let mut words = lent;
         let mut line = Line {
             size,
@@ -156,7 +142,7 @@ mod tests {
     #[test]
     fn sizes(rt: HostRuntime) -> Result<(), Fail> {
         for farms in [63u16, 64, 65, MOST_FARMS] {
-            round(&rt, farms)?;
+            round(&rt, rt.alloc(), farms)?;
         }
         Ok(())
     }

@@ -33,10 +33,6 @@ pub record Halfway (l : Line) (scale : ℕ) (costs row : List ℕ) (i e : ℕ) :
   pub before : (k : ℕ) → k < i → at row k ≡ owed l scale costs k (e + 1)
   pub after : (k : ℕ) → i ≤ k → k < l.farms → at row k ≡ owed l scale costs k e
 
--- one farm on, where its number is as it should be
-pub halfway_more : (l : Line) (scale : ℕ) (costs row : List ℕ) (i e : ℕ) → at row i ≡ owed l scale costs i (e + 1) → Halfway l scale costs row i e → Halfway l scale costs row (i + 1) e
-halfway_more l scale costs row i e here h = record { before = below_more _ i h.before here; after = λ k s t. h.after k (omega arith) t }
-
 -- a farm's number is written
 pub halfway_set : (l : Line) (scale : ℕ) (costs row : List ℕ) (i e x : ℕ) → i < length row → x ≡ owed l scale costs i (e + 1) → Halfway l scale costs row i e → Halfway l scale costs (set row i x) (i + 1) e
 halfway_set l scale costs row i e x p here h =
@@ -53,10 +49,10 @@ each_small scale u x s c =
     let low : x ≤ 1000000000000 = omega arith in
     omega (arith, mul-le-mul few low)
 
--- a farm that uses the part
-pub owed_used : (l : Line) (scale : ℕ) (costs : List ℕ) (i e u x : ℕ) → l.uses i e ≡ true → u ≡ users l e → x ≡ owed l scale costs i e → x + scale / u * at costs e ≡ owed l scale costs i (e + 1)
-owed_used l scale costs i e u x uses same so =
-    omega (arith, due_used l (λ f. scale / users l f) (at costs) i e uses, ap (λ y. scale / y * at costs e) same)
+-- a farm that uses the part, where x is what it owes so far, u how many users there are, and y the cost
+pub owed_used : (l : Line) (scale : ℕ) (costs : List ℕ) (i e u x y : ℕ) → l.uses i e ≡ true → u ≡ users l e → y ≡ at costs e → x ≡ owed l scale costs i e → x + scale / u * y ≡ owed l scale costs i (e + 1)
+owed_used l scale costs i e u x y uses same is so =
+    omega (arith, due_used l (λ f. scale / users l f) (at costs) i e uses, ap (λ z. scale / z * at costs e) same, ap (λ z. scale / u * z) is)
 
 -- one that doesn't
 pub owed_unused : (l : Line) (scale : ℕ) (costs : List ℕ) (i e x : ℕ) → l.uses i e ≡ false → x ≡ owed l scale costs i e → x ≡ owed l scale costs i (e + 1)

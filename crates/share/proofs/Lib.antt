@@ -1,3 +1,4 @@
+pub mod Along
 pub mod Building
 pub mod Leasts
 pub mod Dues
@@ -9,4 +10,5 @@ pub mod Groups
 pub mod Once
 pub mod Scales
 pub mod Promised
+pub mod Answering
 pub mod Wholes

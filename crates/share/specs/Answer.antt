@@ -29,6 +29,10 @@ too_large costs e = nat_le costs_end (at costs e)
 unfoldable pub large_refused : ℕ → List ℕ → Option Refusal
 large_refused m costs = cond (some m (too_large costs)) (Some (Amount (first m (too_large costs)))) None
 
+-- fewer than m costs are refused
+unfoldable pub few_refused : ℕ → List ℕ → Option Refusal
+few_refused m costs = cond (nat_lt (length costs) m) (Some (Short TheCosts)) None
+
 -- what is wrong with the costs of m parts: there are too few, or one is too large
 unfoldable pub costs_refused : ℕ → List ℕ → Option Refusal
 costs_refused m costs = cond (nat_lt (length costs) m) (Some (Short TheCosts)) (large_refused m costs)
@@ -36,6 +40,10 @@ costs_refused m costs = cond (nat_lt (length costs) m) (Some (Short TheCosts)) (
 -- shares of all farms: too few numbers are lent for them, or the costs are refused
 unfoldable pub shares_refused : Line → List ℕ → ℕ → Option Refusal
 shares_refused l costs lent = cond (nat_lt lent l.farms) (Some (Short Accounts)) (costs_refused l.parts costs)
+
+-- a farm of a year: there is no such farm, or a cost is too large
+unfoldable pub known_refused : Line → List ℕ → ℕ → Option Refusal
+known_refused l costs i = cond (nat_le l.farms i) (Some (Unknown i)) (large_refused l.parts costs)
 
 -- a farm's share: there are too few costs, or no such farm, or a cost is too large
 unfoldable pub farm_refused : Line → List ℕ → ℕ → Option Refusal

@@ -7,3 +7,4 @@ pub mod parts;
 mod scale;
 pub mod shares;
 pub mod theorems;
+mod year;

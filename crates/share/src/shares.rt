@@ -1,5 +1,5 @@
 // The shares of all farms, and of one.
-ghost use Rattle.std.specs.Prelude.{◌≡◌, ℕ, ◌/◌, ◌<◌, ◌≤◌, length, drop};
+ghost use Rattle.std.specs.Prelude.{◌≡◌, ℕ, ◌/◌, ◌<◌, length};
 ghost use Rattle.std.specs.Result.{result_err};
 ghost use Rattle.line.specs.Held.{held};
 ghost use Rattle.line.specs.Line.{users};
@@ -8,39 +8,43 @@ ghost use Rattle.share.specs.Asked.{Asked};
 ghost use Rattle.share.specs.Scale.{scaled};
 ghost use Rattle.share.specs.Weight.{once};
 
-use crate::costs::{check_costs, check_large};
-use crate::scale::scale_of;
+use crate::year::Year;
 use line::line::Line;
 use line::names::{Farm, Part};
 use line::refusal::{Lent, Refusal};
 use number::fraction::Fraction;
 
-// Sets the first n numbers to 0.
-fn clear(row: &mut [u64], n: usize)
-    requires { n ≤ length row.old }
-    ensures zeros { (i : ℕ) → i < n → at row.new i ≡ 0 }
-    ensures rest { drop n row.new ≡ drop n row.old }
-{
-    for i in 0..n {
-        row[i] = 0;
-    }
-}
-
-// Writes each farm's share, times the scale: part by part, each of its users pays the same.
-fn add_up(line: &Line, costs: &[u64], scale: u64, row: &mut [u64])
-    requires asked { Asked (held line.now) costs.now scale }
-    requires room { line.now.size.farms ≤ length row.old }
-    ensures shares { (i : ℕ) → i < line.now.size.farms → at row.new i ≡ scaled (held line.now) (once (held line.now)) (λ e. scale / users (held line.now) e) (at costs.now) i }
-    ensures rest { drop line.now.size.farms row.new ≡ drop line.now.size.farms row.old }
-{
-    clear(row, line.size.farms as usize);
-    for e in 0..line.size.parts {
-        let each = scale / line.users(Part(e)) * costs[e as usize];
-        for i in 0..line.size.farms {
-            if line.uses(Farm(i), Part(e)) {
-                row[i as usize] += each;
+impl Year<'_, '_> {
+    // Writes each farm's share, times the scale: part by part, each of its users pays the same.
+    fn add_up(&self, scale: u64, row: &mut [u64])
+        requires asked { Asked (held self.now.line.now) self.now.costs.now scale }
+        requires room { length row.old ≡ self.now.line.now.size.farms }
+        ensures { (i : ℕ) → i < self.now.line.now.size.farms → at row.new i ≡ scaled (held self.now.line.now) (once (held self.now.line.now)) (λ e. scale / users (held self.now.line.now) e) (at self.now.costs.now) i }
+    {
+        row.fill(0);
+        for (e, cost) in (0..self.line.size.parts).zip(self.costs) {
+            let each = scale / self.line.users(Part(e)) * cost;
+            for (i, due) in row.iter_mut().enumerate() {
+                if self.line.uses(Farm(i as u16), Part(e)) {
+                    *due += each;
+                }
             }
         }
+    }
+
+    // What one farm pays, times the scale.
+    fn due_of(&self, scale: u64, farm: Farm) -> u64
+        requires asked { Asked (held self.now.line.now) self.now.costs.now scale }
+        requires member { farm.0 < self.now.line.now.size.farms }
+        ensures { result ≡ scaled (held self.now.line.now) (once (held self.now.line.now)) (λ e. scale / users (held self.now.line.now) e) (at self.now.costs.now) farm.0 }
+    {
+        let mut due = 0;
+        for (e, cost) in (0..self.line.size.parts).zip(self.costs) {
+            if self.line.uses(farm, Part(e)) {
+                due += scale / self.line.users(Part(e)) * cost;
+            }
+        }
+        due
     }
 }
 
@@ -52,27 +56,13 @@ pub fn shares(line: &Line, costs: &[u64], row: &mut [u64]) -> Result<Option<u64>
     if row.len() < line.size.farms as usize {
         return Err(Refusal::Short(Lent::Accounts));
     }
-    check_costs(costs, line.size.parts)?;
-    let Some(scale) = scale_of(line, costs) else {
+    let year = Year::new(line, costs)?;
+    year.check_large()?;
+    let Some(scale) = year.scale() else {
         return Ok(None);
     };
-    add_up(line, costs, scale, row);
+    year.add_up(scale, &mut row[..line.size.farms as usize]);
     Ok(Some(scale))
-}
-
-// What one farm pays, times the scale.
-fn due_of(line: &Line, costs: &[u64], scale: u64, farm: Farm) -> u64
-    requires asked { Asked (held line.now) costs.now scale }
-    requires member { farm.0 < line.now.size.farms }
-    ensures { result ≡ scaled (held line.now) (once (held line.now)) (λ e. scale / users (held line.now) e) (at costs.now) farm.0 }
-{
-    let mut due = 0;
-    for e in 0..line.size.parts {
-        if line.uses(farm, Part(e)) {
-            due += scale / line.users(Part(e)) * costs[e as usize];
-        }
-    }
-    due
 }
 
 // The share of one farm as a fraction in lowest terms, if the least scale of all farms' shares is below the limit.
@@ -80,15 +70,10 @@ pub fn share_of(line: &Line, costs: &[u64], farm: Farm) -> Result<Option<Fractio
     ensures refused { result_err result ≡ farm_refused (held line.now) costs.now farm.0 }
     ensures answer { ShareAnswer (held line.now) costs.now farm.0 result }
 {
-    if costs.len() < line.size.parts as usize {
-        return Err(Refusal::Short(Lent::Costs));
-    }
-    if farm.0 >= line.size.farms {
-        return Err(Refusal::Unknown(farm.0 as usize));
-    }
-    check_large(costs, line.size.parts)?;
-    let Some(scale) = scale_of(line, costs) else {
+    let year = Year::new(line, costs)?;
+    year.check_farm(farm)?;
+    let Some(scale) = year.scale() else {
         return Ok(None);
     };
-    Ok(Fraction::new(due_of(line, costs, scale, farm), scale))
+    Ok(Fraction::new(year.due_of(scale, farm), scale))
 }

@@ -52,16 +52,8 @@ mod tests {
         assert_eq!(rt; shares(&line, costs, &mut row), Ok(Some(scale)));
         assert_eq!(rt; row[7], 7);
         assert_eq!(rt; expected.len(), size.farms as usize);
-        for (i, (scaled, share)) in row.iter().zip(expected.iter()).enumerate() {
-            farm_agrees(
-                rt,
-                &line,
-                costs,
-                Farm((i & 0xff) as u16),
-                *scaled,
-                scale,
-                *share,
-            )?;
+        for (i, (scaled, share)) in (0..size.farms).zip(row.iter().zip(expected)) {
+            farm_agrees(rt, &line, costs, Farm(i), *scaled, scale, *share)?;
         }
         Ok(())
     }
@@ -118,6 +110,15 @@ mod tests {
         )
     }
 
+    // A row of a farm's parts.
+    fn part_share(part: u16, cost: u64, users: u64) -> PartShare {
+        PartShare {
+            part: Part(part),
+            cost: Cents(cost),
+            users,
+        }
+    }
+
     // Parts with 7, 9, 11 and 13 users: the scale would be 9,009.
     #[test]
     fn part_by_part(rt: HostRuntime) -> Result<(), Fail> {
@@ -132,44 +133,16 @@ mod tests {
         assert_eq!(rt; shares(&line, &costs, &mut row), Ok(None));
         assert_eq!(rt; row[0], 7);
         assert!(rt; share_of(&line, &costs, Farm(8))?.is_none());
-        let mut rows = [PartShare {
-            part: Part(9),
-            cost: Cents(9),
-            users: 9,
-        }; 4];
-        let k = part_shares(&line, &costs, Farm(8), &mut rows)?;
-        assert_eq!(rt; k, 3);
+        let mut rows = [part_share(9, 9, 9); 4];
+        assert_eq!(rt; part_shares(&line, &costs, Farm(8), &mut rows), Ok(3));
         assert_eq!(rt;
-            rows[0],
-            PartShare {
-                part: Part(1),
-                cost: Cents(90),
-                users: 9,
-            }
-        );
-        assert_eq!(rt;
-            rows[1],
-            PartShare {
-                part: Part(2),
-                cost: Cents(110),
-                users: 11,
-            }
-        );
-        assert_eq!(rt;
-            rows[2],
-            PartShare {
-                part: Part(3),
-                cost: Cents(130),
-                users: 13,
-            }
-        );
-        assert_eq!(rt;
-            rows[3],
-            PartShare {
-                part: Part(9),
-                cost: Cents(9),
-                users: 9,
-            }
+            rows,
+            [
+                part_share(1, 90, 9),
+                part_share(2, 110, 11),
+                part_share(3, 130, 13),
+                part_share(9, 9, 9),
+            ]
         );
         Ok(())
     }
@@ -209,11 +182,7 @@ mod tests {
             size,
             words: &mut words,
         };
-        let blank = PartShare {
-            part: Part(9),
-            cost: Cents(9),
-            users: 9,
-        };
+        let blank = part_share(9, 9, 9);
         let mut rows = [blank; 2];
         let large = [1_000_000_000_000, 1];
         assert_eq!(rt;

@@ -1,31 +1,26 @@
-use Rattle.std.proofs.Common.{true, None, sym, refl, ◌∙◌, subst}
+use Rattle.std.proofs.Common.{sym, ◌∙◌, subst}
+use Rattle.std.proofs.lemmas.Result.{err_from_is_err_and}
 use Rattle.line.specs.Held.{held}
-use Rattle.line.proofs.Rows.{row_room}
+use Rattle.share.specs.Weight.{AllUsed}
 use Rattle.change.specs.Change.{joined}
 use Rattle.change.specs.Theorems.{NoneRaised}
 use Rattle.change.proofs.Growth.{joining_raises_none_lem, joined_grows_lem, still_used}
-use Rattle.change.proofs.Outcomes.{refused_join, no_part, no_farm, known, joined_is, used_after}
-use Rattle.change.proofs.Putting.{put_mark}
+use Rattle.change.proofs.Outcomes.{refused_join, known_both, joined_is}
 use Rattle.change.proofs.change.join.Goals as goal
 
-pub returns-then-part-line : goal.returns-then-part-line
-returns-then-part-line c = refused_join _ _ c.args.line.now _ (no_part _ c.args.farm.0 c.args.part.0 _ c.if-part-line.true)
+pub returns-in_err-check_names : goal.returns-in_err-check_names
+returns-in_err-check_names c =
+    let p = err_from_is_err_and c.from_residual.result c.from_residual.ensures.1 in
+    rw (p.1, p.2) (refused_join _ _ c.args.line.now _ c.in_err-check_names.ensures)
 
-pub returns-then-farm-line : goal.returns-then-farm-line
-returns-then-farm-line c = refused_join _ _ c.args.line.now _ (no_farm _ c.args.farm.0 c.args.part.0 _ c.if-part-line.false c.if-farm-line.true)
-
-pub slice_bounds-set_user-end : goal.slice_bounds-set_user-end
-slice_bounds-set_user-end c = row_room c.args.part.0 c.args.line.now.size.parts _ _ c.if-part-line.false (rw c.row_words-width.ensures c.args.line.now.room)
-
-pub invariant_of-line : goal.invariant_of-line
-invariant_of-line c =
+pub write_use-requires : goal.write_use-requires
+write_use-requires c =
     let line = c.args.line.now in
     let l = held line in
     let i = c.args.farm.0 in
     let e = c.args.part.0 in
-    let mark = put_mark line.size.farms line.size.parts i e true line.words.now _ c.if-farm-line.false c.if-part-line.false line.room line.clear _ c.row_words-width.ensures c.set_user.auto.row c.set_user.ensures in
-    let used = still_used i l (joined l i e) (joined_grows_lem l i e) line.used in
-    record { farms = line.farms; parts = line.parts; room = mark.room; clear = mark.clear; used = used_after _ _ (joined l i e) _ (mark.line ∙ joined_is l i e) refl used }
+    let both = known_both l i e c.in_ok-check_names.ensures in
+    record { farm = both.1; part = both.0; used = subst AllUsed (sym (joined_is l i e)) (still_used i l (joined l i e) (joined_grows_lem l i e) line.used) }
 
 pub returns : goal.returns
 returns c =
@@ -33,11 +28,10 @@ returns c =
     let l = held line in
     let i = c.args.farm.0 in
     let e = c.args.part.0 in
-    let mark = put_mark line.size.farms line.size.parts i e true line.words.now _ c.if-farm-line.false c.if-part-line.false line.room line.clear _ c.row_words-width.ensures c.set_user.auto.row c.set_user.ensures in
-    let is = mark.line ∙ joined_is l i e in
+    let is = c.write_use.ensures.holds ∙ joined_is l i e in
     record {
-      refused = known l i e None c.if-part-line.false c.if-farm-line.false;
+      refused = c.in_ok-check_names.ensures;
       holds = is;
-      kept = record { size = refl; rest = mark.rest; lender = refl };
+      kept = c.write_use.ensures.kept;
       others = subst (NoneRaised i l) (sym is) (joining_raises_none_lem i l (joined l i e) (joined_grows_lem l i e) line.used);
     }

@@ -1,55 +1,45 @@
-use Rattle.std.proofs.Common.{length, sym, refl, ◌∙◌}
+use Rattle.std.proofs.Common.{sym, ◌∙◌, subst₂, arith}
 use Rattle.number.proofs.Fractions.{same_sym, ◌then◌}
-use Rattle.std.proofs.lemmas.Result.{err_from_is_err_and}
 use Rattle.line.specs.Held.{held}
-use Rattle.share.specs.Answer.{at}
+use Rattle.share.specs.Answer.{at, few_refused, known_refused, parts_refused, Rows}
 use Rattle.share.proofs.Lists.{total_listed}
 use Rattle.share.proofs.Once.{once_rule_lem}
 use Rattle.share.proofs.Promised.{fair_share}
-use Rattle.share.proofs.Refusing.{parts_few, parts_short, parts_unknown, parts_on}
+use Rattle.share.proofs.Refusing.{passed_on, known_fine}
 use Rattle.share.proofs.parts.part_shares.Goals as goal
 
-pub returns-then-costs-line : goal.returns-then-costs-line
-returns-then-costs-line c = record { refused = sym (parts_few (held c.args.line.now) c.args.costs.now c.args.farm.0 (length c.args.rows.now) c.if-costs-line.true); answer = refl }
+pub returns-in_err-year-clause-refused : goal.returns-in_err-year-clause-refused
+unfolding few_refused parts_refused
+returns-in_err-year-clause-refused c = passed_on _ _ c.from_residual.ensures.1 ∙ grind (arith, c.in_err-year.ensures.refused)
 
-pub returns-then-rows-line : goal.returns-then-rows-line
-returns-then-rows-line c = record { refused = sym (parts_short (held c.args.line.now) c.args.costs.now c.args.farm.0 (length c.args.rows.now) c.if-costs-line.false c.if-rows-line.true); answer = refl }
+pub returns-then-rows-line-clause-refused : goal.returns-then-rows-line-clause-refused
+unfolding few_refused parts_refused
+returns-then-rows-line-clause-refused c = grind (arith, c.in_ok-year.ensures.refused)
 
-pub returns-then-farm-line : goal.returns-then-farm-line
-returns-then-farm-line c =
-    record {
-      refused =
-          sym (parts_unknown (held c.args.line.now) c.args.costs.now c.args.farm.0 (length c.args.rows.now) c.if-costs-line.false c.if-rows-line.false c.if-farm-line.true);
-      answer = refl;
-    }
-
-pub returns-in_err-check_large : goal.returns-in_err-check_large
-returns-in_err-check_large c =
-    let p = err_from_is_err_and c.from_residual.result c.from_residual.ensures.1 in
-    rw (p.1, p.2) (record {
-      refused =
-          c.in_err-check_large.ensures
-          ∙ sym (parts_on (held c.args.line.now) c.args.costs.now c.args.farm.0 (length c.args.rows.now) c.if-costs-line.false c.if-rows-line.false c.if-farm-line.false);
-      answer = refl;
-    })
+pub returns-in_err-check_farm-clause-refused : goal.returns-in_err-check_farm-clause-refused
+unfolding few_refused known_refused parts_refused
+returns-in_err-check_farm-clause-refused c = passed_on _ _ c.from_residual-in_err-check_farm.ensures.1 ∙ grind (arith, c.in_ok-year.ensures.refused, c.in_ok-year.ensures.same, c.in_err-check_farm.ensures)
 
 pub list_parts-requires : goal.list_parts-requires
-list_parts-requires c = record { room = c.if-rows-line.false; enough = c.if-costs-line.false }
+list_parts-requires c = grind (arith, c.in_ok-year.ensures.same)
 
-pub returns : goal.returns
-returns c =
-    let line = c.args.line.now in
-    let costs = at c.args.costs.now in
-    let share = total_listed (held line) costs c.args.farm.0 line.size.parts then same_sym (once_rule_lem (held line) line.used costs c.args.farm.0) in
-    record {
-      refused =
-          c.in_ok-check_large.ensures
-          ∙ sym (parts_on (held line) c.args.costs.now c.args.farm.0 (length c.args.rows.now) c.if-costs-line.false c.if-rows-line.false c.if-farm-line.false);
-      answer = record {
-        rows = c.list_parts.ensures.front;
-        count = c.list_parts.ensures.count;
-        share = share;
-        fair = λ r f. share then fair_share (held line) line.used costs c.args.farm.0 c.if-farm-line.false r f;
-        rest = c.list_parts.ensures.rest;
-      };
-    }
+pub returns-clause-refused : goal.returns-clause-refused
+unfolding few_refused known_refused parts_refused
+returns-clause-refused c = grind (arith, c.in_ok-year.ensures.refused, c.in_ok-year.ensures.same, c.in_ok-check_farm.ensures)
+
+pub returns-clause-answer : goal.returns-clause-answer
+returns-clause-answer c =
+    let year = c.in_ok-year.year in
+    let l = held year.line.now in
+    let costs = at year.costs.now in
+    let i = c.args.farm.0 in
+    let fine = known_fine l year.costs.now i (sym c.in_ok-check_farm.ensures) in
+    let share = total_listed l costs i l.parts then same_sym (once_rule_lem l year.line.now.used costs i) in
+    subst₂ (λ line costs. Rows (held line) costs i c.args.rows.now c.list_parts.new.rows c.list_parts.result) c.in_ok-year.ensures.same.0 c.in_ok-year.ensures.same.1
+    (record {
+      rows = c.list_parts.ensures.front;
+      count = c.list_parts.ensures.count;
+      share = share;
+      fair = λ r f. share then fair_share l year.line.now.used costs i fine.0 r f;
+      rest = c.list_parts.ensures.rest;
+    })
