@@ -6,9 +6,9 @@ pub mod Equal
 pub mod Threshold
 pub mod Same
 pub mod Closing
-mod Listing
-mod Marks
-mod Chosen
 mod Turns
 mod Capped
 mod Refusing
+mod Counts
+mod Chosen
+mod Numbered

@@ -1,7 +1,7 @@
 -- Splitting costs part by part and farm by farm.
-use Rattle.std.proofs.Common.{◌≡◌, ℕ, ◌+◌, ◌*◌, ◌/◌, ◌^◌, ◌<◌, ◌≤◌, true, false, cond, ◌≢◌, List, length, set, sym, refl, ap, ◌∙◌, ap₂, div-le_self, arith, below_more}
+use Rattle.std.proofs.Common.{◌≡◌, ℕ, ◌+◌, ◌*◌, ◌/◌, ◌^◌, ◌<◌, ◌≤◌, true, false, cond, ◌≢◌, List, length, set, sym, refl, ap, ◌∙◌, ap₂, ⊎_elim, arith, below_more}
 use Rattle.std.proofs.lemmas.List.{get_or-set_same, get_or-set_other}
-use Rattle.std.proofs.lemmas.Bool.{and_left}
+use Rattle.std.proofs.lemmas.Bool.{cases_lt, and_left}
 use Rattle.number.specs.Sum.{one}
 use Rattle.number.proofs.Sums.{sum_most}
 use Rattle.line.specs.Limits.{most_parts, costs_end}
@@ -36,10 +36,6 @@ pub record Halfway (l : Line) (e c : ℕ) (odd₁ sums₁ : List ℕ) (i : ℕ) 
   pub counts_after : (k : ℕ) → i ≤ k → at odd k ≡ at odd₁ k
   pub cents_before : (k : ℕ) → k < i → at sums k ≡ at sums₁ k + cents l (once l) e c (at odd₁) k
   pub cents_after : (k : ℕ) → i ≤ k → at sums k ≡ at sums₁ k
-
--- there is room in each farm's sum for so many cents and one more, and for one more in its count
-abbrev pub Room : Line → ℕ → (odd sums : List ℕ) → Type 0
-Room l each odd sums = (i : ℕ) → i < l.farms → (at sums i + (each + 1) < 2 ^ 63) × (at odd i + 1 < 2 ^ 63)
 
 -- who uses a part pays its whole cents, and one more if it is a payer
 user_pays : (l : Line) (e c : ℕ) (odd : ℕ → ℕ) (i u m : ℕ) → l.uses i e ≡ true → u ≡ users l e → m ≡ one (pays_odd l (once l) e c odd i) →
@@ -90,6 +86,19 @@ module _ (l : Line) (e c : ℕ) (odd₁ sums₁ : List ℕ) where
   pub halfway_at : (i : ℕ) {odd sums odd' sums' : List ℕ} → odd' ≡ odd → sums' ≡ sums → Halfway l e c odd₁ sums₁ i odd sums → Halfway l e c odd₁ sums₁ i odd' sums'
   halfway_at i a b h = rw (a, b) h
 
+  -- rows in which part e's cost c is split among all farms
+  pub record Turned (odd sums : List ℕ) : Type 0 where
+    pub counts : (i : ℕ) → at odd i ≡ odd_after l (once l) e c (at odd₁) i
+    pub cents : (i : ℕ) → at sums i ≡ at sums₁ i + cents l (once l) e c (at odd₁) i
+
+  -- all farms have had their turn; past them nobody uses the part
+  pub halfway_all : {n : ℕ} {odd sums : List ℕ} → Halfway l e c odd₁ sums₁ n odd sums → ((k : ℕ) → n ≤ k → l.uses k e ≡ false) → Turned odd sums
+  halfway_all {n} h past =
+      record {
+        counts = λ i. ⊎_elim (h.counts_before i) (λ (g : n ≤ i). h.counts_after i g ∙ sym (other_pays l e c (at odd₁) i (past i g)).1) (cases_lt i n);
+        cents = λ i. ⊎_elim (h.cents_before i) (λ (g : n ≤ i). omega (arith, h.cents_after i g, other_pays l e c (at odd₁) i (past i g))) (cases_lt i n);
+      }
+
 module _ (l : Line) (costs odd₀ : List ℕ) where
   pub upto_none : (sums : List ℕ) → ((i : ℕ) → i < l.farms → at sums i ≡ 0) → Upto l costs odd₀ sums 0 odd₀ sums
   upto_none sums zeros =
@@ -101,17 +110,16 @@ module _ (l : Line) (costs odd₀ : List ℕ) where
       }
 
   -- one part on
-  pub upto_more : {k : ℕ} {sums₀ odd₁ sums₁ odd sums : List ℕ} (n : ℕ) → Upto l costs odd₀ sums₀ k odd₁ sums₁ → n ≡ l.farms → Halfway l k (at costs k) odd₁ sums₁ n odd sums → Upto l costs odd₀ sums₀ (k + 1) odd sums
-  upto_more {k} {sums₀} {odd₁} {sums₁} n up all h =
+  pub upto_more : {k : ℕ} {sums₀ odd₁ sums₁ odd sums : List ℕ} → Upto l costs odd₀ sums₀ k odd₁ sums₁ → ((i : ℕ) → l.farms ≤ i → l.uses i k ≡ false) →
+      Turned l k (at costs k) odd₁ sums₁ odd sums → Upto l costs odd₀ sums₀ (k + 1) odd sums
+  upto_more {k} {sums₀} {odd₁} {sums₁} up past turned =
       record {
-        counts = λ i g.
-            h.counts_before i (omega arith) ∙ odd_after_same l (once l) k (at costs k) (at odd₁) (paid l costs odd₀ k) up.counts i g
-            ∙ sym (odds_next l (once l) (at costs) (at odd₀) i k);
+        counts = λ i g. turned.counts i ∙ odd_after_same l (once l) k (at costs k) (at odd₁) (paid l costs odd₀ k) up.counts i g ∙ sym (odds_next l (once l) (at costs) (at odd₀) i k);
         cents = λ i g.
-            h.cents_before i (omega arith) ∙ ap₂ ◌+◌ (up.cents i g) (cents_same l (once l) k (at costs k) (at odd₁) (paid l costs odd₀ k) up.counts i g)
+            turned.cents i ∙ ap₂ ◌+◌ (up.cents i g) (cents_same l (once l) k (at costs k) (at odd₁) (paid l costs odd₀ k) up.counts i g)
             ∙ sym (charged_next l (once l) (at costs) (at odd₀) i k);
-        counts_rest = λ i g. h.counts_after i (omega arith) ∙ up.counts_rest i g;
-        cents_rest = λ i g. h.cents_after i (omega arith) ∙ up.cents_rest i g;
+        counts_rest = λ i g. turned.counts i ∙ (other_pays l k (at costs k) (at odd₁) i (past i g)).1 ∙ up.counts_rest i g;
+        cents_rest = λ i g. omega (arith, turned.cents i, other_pays l k (at costs k) (at odd₁) i (past i g), up.cents_rest i g);
       }
 
   -- one part on that costs nothing
@@ -133,9 +141,10 @@ module _ (l : Line) (costs odd₀ : List ℕ) where
   due_small i k small h g = omega (arith, charged_most l (once l) (at costs) (at odd₀) i k h, sum_most k costs_end (at costs) (λ e p. omega (arith, small e (omega arith))))
 
   -- there is room for what one more part adds to a sum and to a count
-  pub room : {k : ℕ} {sums₀ odd sums : List ℕ} (u : ℕ) → Asked l costs odd₀ → l.parts ≤ most_parts → Upto l costs odd₀ sums₀ k odd sums → k < l.parts → Room l (at costs k / u) odd sums
+  pub room : {k : ℕ} {sums₀ odd sums : List ℕ} → Asked l costs odd₀ → l.parts ≤ most_parts → Upto l costs odd₀ sums₀ k odd sums → k < l.parts → (i : ℕ) → i < l.farms →
+      (at odd i + 1 < 2 ^ 63) × (at sums i + at costs k + 1 < 2 ^ 63)
   unfolding most_parts costs_end counts_end
-  room {k} u asked few up h i g = (
-    omega (arith, up.cents i g, due_small i k asked.small g (omega arith), div-le_self (at costs k) u, asked.small k h),
+  room {k} asked few up h i g = (
     omega (arith, up.counts i g, odds_most l (once l) (at costs) (at odd₀) i k, asked.low i g),
+    omega (arith, up.cents i g, due_small i k asked.small g (omega arith), asked.small k h),
   )

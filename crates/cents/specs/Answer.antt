@@ -1,5 +1,6 @@
 -- What the call that splits a year's costs answers, and what lent memory holds after.
 use Rattle.std.specs.Prelude.{◌≡◌, ℕ, ◌^◌, ◌<◌, Bool, cond, ◌||◌, List, length, drop, Some, None, Ok, Err, Option, Result, nat_le, nat_lt}
+use Rattle.std.specs.Option.{option_or}
 use Rattle.number.specs.First.{first, some}
 use Rattle.number.specs.Sum.{sum}
 use Rattle.line.specs.declared.refusal.Holder.TheVariants.{Farm as OfFarm}
@@ -28,15 +29,10 @@ count_refusal i = Account i (OfFarm (record { 0 = i }))
 unfoldable pub counts_refused : Line → (costs odd : List ℕ) → Option Refusal
 counts_refused l costs odd = cond (some l.farms (past (odds_then l costs odd))) (Some (count_refusal (first l.farms (past (odds_then l costs odd))))) None
 
--- a refusal stays; where there is none, the next test is asked
-abbrev pub or_else : Option Refusal → Option Refusal → Option Refusal
-or_else (Some e) x = Some e
-or_else None x = x
-
 -- too few counts or sums are lent for the farms, or the costs are refused, or a count is
 unfoldable pub split_refused : Line → (costs odd : List ℕ) → ℕ → Option Refusal
 split_refused l costs odd lent =
-    cond (nat_lt (length odd) l.farms || nat_lt lent l.farms) (Some (Short Accounts)) (or_else (costs_refused l.parts costs) (counts_refused l costs odd))
+    cond (nat_lt (length odd) l.farms || nat_lt lent l.farms) (Some (Short Accounts)) (option_or (costs_refused l.parts costs) (counts_refused l costs odd))
 
 -- the costs are split: each farm's sum is what it pays, all together are the costs, each is below 2^63, and its count is how many odd cents it has paid then; what stands behind the farms' stays
 pub record Closed (l : Line) (costs odd odd' sums sums' : List ℕ) : Type 0 where

@@ -1,7 +1,6 @@
 -- The users with the lowest ranks, found by a level of odd cents.
-use Rattle.std.specs.Prelude.{◌≡◌, ℕ, ◌<◌, ◌≤◌, Bool, ◌&&◌, ◌||◌, List, length, take, ◌==◌, nat_lt}
+use Rattle.std.specs.Prelude.{◌≡◌, ℕ, Bool, ◌&&◌, ◌||◌, List, length, count_by, ◌==◌, nat_lt}
 use Rattle.number.specs.Sum.{count}
-use Rattle.share.specs.Answer.{at}
 
 -- how many of the first n that pass p have paid fewer odd cents than t
 unfoldable pub under : ℕ → (ℕ → Bool) → (ℕ → ℕ) → ℕ → ℕ
@@ -16,12 +15,10 @@ unfoldable pub chosen : (ℕ → Bool) → (ℕ → ℕ) → (t left : ℕ) → 
 chosen p odd t left i = p i && (nat_lt (odd i) t || (odd i == t && nat_lt (at_level p odd t i) left))
 
 -- how many of the counts that are listed are below t
-unfoldable pub fewer : List ℕ → ℕ → ℕ
-fewer keys t = count (length keys) (λ j. nat_lt (at keys j) t)
+abbrev pub fewer : List ℕ → ℕ → ℕ
+fewer counts t = count_by (λ count. nat_lt count t) counts
 
--- the counts of those of the first n that pass p stand at the front of the keys, in any order: as many are below any t as have paid fewer; none is below the least or above the most
-pub record Listed (p : ℕ → Bool) (odd : ℕ → ℕ) (n : ℕ) (keys : List ℕ) (many least most : ℕ) : Type 0 where
-  pub all : many ≡ count n p
-  pub agree : (t : ℕ) → fewer (take many keys) t ≡ under n p odd t
-  pub low : (j : ℕ) → j < many → least ≤ at keys j
-  pub high : (j : ℕ) → j < many → at keys j ≤ most
+-- the counts of those of the first n that pass p are listed, in any order: as many are below any t as have paid fewer
+pub record Listed (p : ℕ → Bool) (odd : ℕ → ℕ) (n : ℕ) (counts : List ℕ) : Type 0 where
+  pub all : length counts ≡ count n p
+  pub agree : (t : ℕ) → fewer counts t ≡ under n p odd t

@@ -1,27 +1,46 @@
 // Splitting a year's costs.
-ghost use Rattle.std.specs.Prelude.{◌≡◌, ℕ, ◌<◌, ◌≤◌, min, length, drop};
+ghost use Rattle.std.specs.Prelude.{◌≡◌, ℕ, ◌+◌, ◌^◌, ◌<◌, ◌≤◌, min, length, map, position, nat_le};
 ghost use Rattle.std.specs.Result.{result_err};
-ghost use Rattle.number.specs.First.{first};
 ghost use Rattle.line.specs.Held.{held};
 ghost use Rattle.share.specs.Answer.{at};
 ghost use Rattle.share.specs.Weight.{once};
-ghost use Rattle.cents.specs.Answer.{odds_then, past, split_refused, Answered};
+ghost use Rattle.cents.specs.Answer.{odds_then, split_refused, Answered};
 ghost use Rattle.cents.specs.Asked.{Asked};
 ghost use Rattle.cents.specs.Closing.{charged};
-ghost use Rattle.cents.specs.Limits.{counts_end};
+ghost use Rattle.cents.specs.Split.{cents, odd_after};
 
 use crate::limits::COUNTS_END;
-use crate::payers::{one_of, write_payers};
-use line::limits::MOST_FARMS;
+use crate::payers::{MOST, level_of, list_counts};
 use line::line::Line;
 use line::names::{Farm, Part};
 use line::refusal::{Holder, Lent, Refusal};
-use share::costs::refused_costs;
+use share::costs::check_costs;
 
-// The words that a bit for each farm takes.
-const ROW_WORDS: usize = (MOST_FARMS as usize + 63) / 64;
+// Splits a part's cost: each user pays the same, and one cent more if it is one of the part's payers.
+fn split_part(line: &Line, part: Part, cost: u64, odd: &mut [u64], sums: &mut [u64])
+    requires part { part.0 < line.now.size.parts }
+    requires counts { line.now.size.farms ≤ length odd.old }
+    requires cents { line.now.size.farms ≤ length sums.old }
+    requires count_room { (i : ℕ) → i < line.now.size.farms → at odd.old i + 1 < 2 ^ 63 }
+    requires cent_room { (i : ℕ) → i < line.now.size.farms → at sums.old i + cost + 1 < 2 ^ 63 }
+    ensures counts { (i : ℕ) → at odd.new i ≡ odd_after (held line.now) (once (held line.now)) part.0 cost (at odd.old) i }
+    ensures cents { (i : ℕ) → at sums.new i ≡ at sums.old i + cents (held line.now) (once (held line.now)) part.0 cost (at odd.old) i }
+{
+    let mut counts = list_counts(line, part, odd);
+    let users = counts.len() as u64;
+    let each = cost / users;
+    let mut level = level_of(counts.as_mut_slice(), (cost % users) as usize);
+    // By the farms' numbers, which also say which bit of the line is looked at: a proof loses what a zip of two rows writes.
+    for i in 0..line.size.farms {
+        if line.uses(Farm(i), part) {
+            let more = level.one_more(odd[i as usize]);
+            sums[i as usize] += each + more;
+            odd[i as usize] += more;
+        }
+    }
+}
 
-// Splits the costs part by part: each user pays the same, and one cent more if it is one of the part's payers.
+// Splits the costs part by part.
 pub fn split_parts(line: &Line, costs: &[u64], odd: &mut [u64], sums: &mut [u64])
     requires asked { Asked (held line.now) costs.now odd.old }
     requires room { line.now.size.farms ≤ length sums.old }
@@ -31,56 +50,27 @@ pub fn split_parts(line: &Line, costs: &[u64], odd: &mut [u64], sums: &mut [u64]
     ensures counts_rest { (i : ℕ) → line.now.size.farms ≤ i → at odd.new i ≡ at odd.old i }
     ensures cents_rest { (i : ℕ) → line.now.size.farms ≤ i → at sums.new i ≡ at sums.old i }
 {
-    let mut payers = [0; ROW_WORDS];
-    for e in 0..line.size.parts {
-        let cost = costs[e as usize];
-        if cost > 0 {
-            write_payers(line, Part(e), cost, odd, &mut payers);
-            let each = cost / line.users(Part(e));
-            for i in 0..line.size.farms {
-                if line.uses(Farm(i), Part(e)) {
-                    let more = one_of(&payers, Farm(i));
-                    sums[i as usize] += each + more;
-                    odd[i as usize] += more;
-                }
-            }
+    for (e, cost) in (0..line.size.parts).zip(costs) {
+        if *cost > 0 {
+            split_part(line, Part(e), *cost, odd, sums);
         }
     }
 }
 
-// Copies the first n counts; one that is too large is taken as the end, so that it stays too large. The rest stays.
-fn read_front(odd: &[u64], n: usize, counts: &mut [u64])
-    requires lent { n ≤ length odd.now }
-    requires room { n ≤ length counts.old }
-    ensures front { (i : ℕ) → i < n → at counts.new i ≡ min (at odd.now i) counts_end }
-    ensures rest { drop n counts.new ≡ drop n counts.old }
+// Takes each count that is too large as the end, so that it stays too large.
+fn cap(counts: &mut [u64])
+    ensures { counts.new ≡ map (λ count. min count COUNTS_END) counts.old }
 {
-    for i in 0..n {
-        counts[i] = odd[i].min(COUNTS_END);
+    for count in counts.iter_mut() {
+        *count = (*count).min(COUNTS_END);
     }
 }
 
-// The first of n farms whose count is too large, or n.
-fn first_past(counts: &[u64], n: usize) -> usize
-    requires { n ≤ length counts.now }
-    ensures { result ≡ first n (past (at counts.now)) }
+// The first farm whose count is too large.
+fn first_past(counts: &[u64]) -> Option<usize>
+    ensures { result ≡ position (λ count. nat_le COUNTS_END count) counts.now }
 {
-    for i in 0..n {
-        if counts[i] >= COUNTS_END {
-            return i;
-        }
-    }
-    n
-}
-
-// Writes the first n numbers.
-fn write_front(from: &[u64], n: usize, to: &mut [u64])
-    requires known { n ≤ length from.now }
-    requires room { n ≤ length to.old }
-    ensures front { (i : ℕ) → i < n → at to.new i ≡ at from.now i }
-    ensures rest { drop n to.new ≡ drop n to.old }
-{
-    to[..n].copy_from_slice(&from[..n]);
+    counts.iter().position(|count| *count >= COUNTS_END)
 }
 
 // Splits a year's costs among the users of each part, to the cent: writes what each farm pays, and how many odd cents it has paid then.
@@ -98,21 +88,21 @@ pub fn split_costs(
     if odd.len() < farms || sums.len() < farms {
         return Err(Refusal::Short(Lent::Accounts));
     }
-    if let Some(refusal) = refused_costs(costs, line.size.parts) {
-        return Err(refusal);
-    }
-    let mut counts = [0; MOST_FARMS as usize];
-    let mut cents = [0; MOST_FARMS as usize];
-    read_front(odd, farms, &mut counts);
-    split_parts(line, costs, &mut counts, &mut cents);
-    let at = first_past(&counts, farms);
-    if at < farms {
+    check_costs(costs, line.size.parts)?;
+    let mut counts = [0; MOST];
+    let mut cents = [0; MOST];
+    let counts = &mut counts[..farms];
+    let cents = &mut cents[..farms];
+    counts.copy_from_slice(&odd[..farms]);
+    cap(counts);
+    split_parts(line, costs, counts, cents);
+    if let Some(at) = first_past(counts) {
         return Err(Refusal::Account {
             at,
             whose: Holder::Farm(Farm(at as u16)),
         });
     }
-    write_front(&counts, farms, odd);
-    write_front(&cents, farms, sums);
+    odd[..farms].copy_from_slice(counts);
+    sums[..farms].copy_from_slice(cents);
     Ok(())
 }

@@ -2,7 +2,6 @@
 #![tactic(auto)]
 
 pub mod costs;
-mod halving;
 pub mod limits;
 mod payers;
 pub mod theorems;

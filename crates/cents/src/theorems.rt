@@ -4,106 +4,76 @@ ghost use Rattle.cents.specs.Theorems.{OddCount, FewestPay, FewestAlike, FreePar
 ghost use Rattle.cents.specs.Theorems.{ThresholdSelects, ClosingAddsUp, OddLevel, OddGap, ClosingLevel};
 
 // Of any candidates just r have a rank below r, if there are as many.
-pub fn ranks_count() -> u8
+pub fn ranks_count()
     ensures { RanksCount }
-{
-    0
-}
+{}
 
 // The cents of a part add up to its cost.
-pub fn cents_add_up() -> u8
+pub fn cents_add_up()
     ensures { CentsAddUp }
-{
-    0
-}
+{}
 
 // What a farm pays is less than one cent away from its weight times the cost over the whole weight.
-pub fn cents_near() -> u8
+pub fn cents_near()
     ensures { CentsNear }
-{
-    0
-}
+{}
 
 // So it is less than one cent away from what every fair rule has the farm pay.
-pub fn cents_fair() -> u8
+pub fn cents_fair()
     ensures { CentsFair }
-{
-    0
-}
+{}
 
 // Who does not use a part pays nothing of it.
-pub fn unused_pay_nothing() -> u8
+pub fn unused_pay_nothing()
     ensures { UnusedPayNothing }
-{
-    0
-}
+{}
 
 // As many farms pay one cent more as cents are left.
-pub fn odd_count() -> u8
+pub fn odd_count()
     ensures { OddCount }
-{
-    0
-}
+{}
 
 // Who pays an odd cent had paid no more of them than one who could pay it and does not.
-pub fn fewest_pay() -> u8
+pub fn fewest_pay()
     ensures { FewestPay }
-{
-    0
-}
+{}
 
 // Nor than one who counts the same and does not.
-pub fn fewest_alike() -> u8
+pub fn fewest_alike()
     ensures { FewestAlike }
-{
-    0
-}
+{}
 
 // A part that costs nothing is paid by nobody, and moves no count.
-pub fn free_part() -> u8
+pub fn free_part()
     ensures { FreePart }
-{
-    0
-}
+{}
 
 // Where each user counts once, a part is split equally among its users.
-pub fn equal_users() -> u8
+pub fn equal_users()
     ensures { EqualUsers }
-{
-    0
-}
+{}
 
 // A threshold of odd cents selects the lowest ranks.
-pub fn threshold_selects() -> u8
+pub fn threshold_selects()
     ensures { ThresholdSelects }
-{
-    0
-}
+{}
 
 // What all farms pay for a year adds up to its costs.
-pub fn closing_adds_up() -> u8
+pub fn closing_adds_up()
     ensures { ClosingAddsUp }
-{
-    0
-}
+{}
 
 // Two farms that count the same for every part, and began at most one odd cent apart, never differ by more than one.
-pub fn odd_level() -> u8
+pub fn odd_level()
     ensures { OddLevel }
-{
-    0
-}
+{}
 
 // Any two farms differ by no more than before, or one, and the odd cents of parts for which they do not count the same.
-pub fn odd_gap() -> u8
+pub fn odd_gap()
     ensures { OddGap }
-{
-    0
-}
+{}
 
 // In a year two farms that count the same for every part differ by at most one odd cent, if they did before.
-pub fn closing_level() -> u8
+pub fn closing_level()
     ensures { ClosingLevel }
-{
-    0
-}
+{}
