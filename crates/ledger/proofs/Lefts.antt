@@ -18,10 +18,6 @@ left_all g = record {
   sheet_name = refl;
 }
 
--- the line is the same
-pub left_state : (g h : Ledger) → Left g h → held h ≡ state_of (line_held g.line.now) h.accounts.now h.odd.now h.costs.now
-left_state g h left = ap (λ l. state_of (line_held l) h.accounts.now h.odd.now h.costs.now) left.line
-
 -- one change, and then another
 pub left_then : (f g h : Ledger) → Left f g → Left g h → Left f h
 left_then f g h a b = record {

@@ -16,28 +16,12 @@ use Rattle.ledger.specs.Open.{holder_refusal, blank, lent_refused, unless_refuse
 use Rattle.ledger.specs.Room.{sheet_length}
 use Rattle.ledger.proofs.Ranges.{accounts_fit, counts_fit}
 
-module _ (s : Size) (accounts odd costs : List ℕ) (sheet : ℕ) where
-  pub lent_accounts : (length accounts < s.farms + 1) ⊎ ((s.farms + 1 ≤ length accounts) × (length odd < s.farms)) → lent_refused s accounts odd costs sheet ≡ Some (Short Accounts)
-  unfolding lent_refused
-  lent_accounts (inl h) = rw (or_left _ (ltb (length odd) s.farms) (lt-ltb (length accounts) (s.farms + 1) h)) refl
-  lent_accounts (inr h) = rw (or_right (ltb (length accounts) (s.farms + 1)) _ (lt-ltb (length odd) s.farms h.1)) refl
-
-  module _ (a : s.farms + 1 ≤ length accounts) (o : s.farms ≤ length odd) where
-    pub lent_costs : length costs < s.parts → lent_refused s accounts odd costs sheet ≡ Some (Short Costs)
-    unfolding lent_refused
-    lent_costs h = rw (le-ltb _ _ a, le-ltb _ _ o, lt-ltb _ _ h) refl
-
-    module _ (c : s.parts ≤ length costs) where
-      pub lent_sheet : sheet < sheet_length s.farms s.parts → lent_refused s accounts odd costs sheet ≡ Some (Short Sheet)
-      unfolding lent_refused
-      lent_sheet h = rw (le-ltb _ _ a, le-ltb _ _ o, le-ltb _ _ c, lt-ltb _ _ h) refl
-
-      -- all is long enough: the costs are asked, then the accounts and counts
-      pub lent_on : (r : Option Refusal) (whose : Option Holder) → sheet_length s.farms s.parts ≤ sheet →
-          r ≡ costs_refused s.parts costs → whose ≡ out_of_range (state_of (blank s) accounts odd costs) →
-          lent_refused s accounts odd costs sheet ≡ option_or r (option_map (holder_refusal s.farms) whose)
-      unfolding lent_refused costs_refused
-      lent_on r whose h is off = rw (is, off, le-ltb _ _ a, le-ltb _ _ o, le-ltb _ _ c, le-ltb _ _ h) refl
+-- where all is long enough, the costs are asked, then the accounts and counts
+pub lent_on : (s : Size) (accounts odd costs : List ℕ) (sheet : ℕ) → s.farms + 1 ≤ length accounts → s.farms ≤ length odd → s.parts ≤ length costs → sheet_length s.farms s.parts ≤ sheet →
+    (r : Option Refusal) (whose : Option Holder) → r ≡ costs_refused s.parts costs → whose ≡ out_of_range (state_of (blank s) accounts odd costs) →
+    lent_refused s accounts odd costs sheet ≡ option_or r (option_map (holder_refusal s.farms) whose)
+unfolding lent_refused costs_refused
+lent_on s accounts odd costs sheet a o c h r whose is off = rw (is, off, le-ltb _ _ a, le-ltb _ _ o, le-ltb _ _ c, le-ltb _ _ h) refl
 
 -- a refusal that is not there
 other_none : (r x : Option Refusal) → option_or r x ≡ None → (r ≡ None) × (x ≡ None)
@@ -71,21 +55,3 @@ lent_fine s accounts odd costs sheet h =
       odd_fit = counts_fit (blank s) accounts odd costs nobody;
       costs_fit = costs_small s.parts costs ranges.0;
     }
-
--- the answer, and the words after it
-module _ (b words accounts odd costs : List ℕ) (sheet : ℕ) where
-  pub opening_line : (e : Refusal) → reading b (length words) ≡ Err e → opening b (length words) accounts odd costs sheet ≡ Err e
-  unfolding opening
-  opening_line e h = rw h refl
-
-  pub opening_lent : (s : Size) (r : Option Refusal) → reading b (length words) ≡ Ok s → r ≡ lent_refused s accounts odd costs sheet → opening b (length words) accounts odd costs sheet ≡ unless_refused r s
-  unfolding opening
-  opening_lent s r h is = rw (h, is) refl
-
-  pub words_kept : (e : Refusal) → opening b (length words) accounts odd costs sheet ≡ Err e → words ≡ opened_words b words accounts odd costs sheet
-  unfolding opened_words
-  words_kept e h = rw h refl
-
-  pub words_filled : (s : Size) → opening b (length words) accounts odd costs sheet ≡ Ok s → filled b words ≡ opened_words b words accounts odd costs sheet
-  unfolding opened_words
-  words_filled s h = rw h refl

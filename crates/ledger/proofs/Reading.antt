@@ -1,4 +1,4 @@
--- Bytes that are read, and what they are answered.
+-- Bytes of a row, and how they are answered.
 use Rattle.std.proofs.Common.{◌≡◌, ℕ, ◌+◌, ◌*◌, ◌≤◌, true, cond, eqb, List, length, take, drop, Ok, Err, ap, arith}
 use Rattle.std.proofs.lemmas.List.{length-take-le, length-drop}
 use Rattle.std.proofs.lemmas.Bool.{eq-eqb}
@@ -10,17 +10,6 @@ use Rattle.posting.specs.Run.{Answer, step, answer, entry}
 use Rattle.posting.specs.State.{State}
 use Rattle.ledger.specs.Posted.{Posted}
 use Rattle.ledger.specs.Row.{answered, left_by}
-
-module _ (k : ℕ) (s : State) where
-  -- bytes that are refused change nothing
-  pub read_not : (bytes : List ℕ) (e : Refusal) → Err e ≡ reading k bytes → (Err e ≡ answered k s bytes) × (s ≡ left_by s bytes)
-  unfolding reading answered left_by
-  read_not bytes e h = (grind arith, grind arith)
-
-  -- bytes that mean a booking are answered as the booking is
-  pub read_so : (bytes : List ℕ) (b : Booking) (t : State) (r : Answer) → Ok b ≡ reading k bytes → Posted k s b t r → (r ≡ answered k s bytes) × (t ≡ left_by s bytes)
-  unfolding reading answered left_by
-  read_so bytes b t r h posted = (grind (arith, posted.answer), grind (arith, posted.after))
 
 -- seven bytes of a row are its booking
 module _ (k : ℕ) (s : State) (row : List ℕ) (inside : k * 7 + 7 ≤ length row) where

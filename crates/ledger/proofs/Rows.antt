@@ -119,25 +119,11 @@ cleared_rows l accounts accounts' odd odd' costs costs' a o c =
     (inside_is l.parts 0 (at costs') (λ _. 0) c (λ _ _. refl)) (inside_same l.farms 0 _ _ o)
 
 -- what is copied to the front of a row
-module _ (n : ℕ) (new from rest : List ℕ) (is : new ≡ take n from) (room : n ≤ length from) where
-  long : length new ≡ n
-  long = ap length is ∙ length-take-le n from room
-
-  pub front : (i : ℕ) → i < n → at (new ++ rest) i ≡ at from i
-  front i h = get_or_append_left new rest 0 i (omega (arith, long)) ∙ ap (λ xs. at xs i) is ∙ get_or-take n from i 0 h
-
-  pub covers : n ≤ length (new ++ rest)
-  covers = omega (arith, long, length-append new rest)
+pub front : (n : ℕ) (new from rest : List ℕ) → new ≡ take n from → n ≤ length from → (i : ℕ) → i < n → at (new ++ rest) i ≡ at from i
+front n new from rest is room i h =
+    get_or_append_left new rest 0 i (omega (arith, ap length is, length-take-le n from room)) ∙ ap (λ xs. at xs i) is ∙ get_or-take n from i 0 h
 
 -- what is filled with zeros
 pub filled_zero : (n : ℕ) (new rest : List ℕ) → new ≡ replicate n 0 → (i : ℕ) → i < n → at (new ++ rest) i ≡ 0
 filled_zero n new rest is i h =
     get_or_append_left new rest 0 i (omega (arith, ap length is, length-replicate {A = ℕ} n 0)) ∙ ap (λ xs. at xs i) is ∙ get_or-replicate n i 0 0 h
-
--- what holds of some words of a row holds after one is written
-pub set_keeps : (P : ℕ → Type 0) (Q : ℕ → Type 0) (row : List ℕ) (i v : ℕ) → i < length row → P v → ((k : ℕ) → Q k → P (at row k)) → (k : ℕ) → Q k → P (at (set row i v) k)
-set_keeps P Q row i v room new old k h =
-    elim (cases_eq i k) [
-      | inl p ↦ subst (λ x. P (at (set row i v) x)) p (subst P (sym (get_or-set_same row i v 0 room)) new)
-      | inr q ↦ subst P (sym (get_or-set_other row i k v 0 (λ e. q (sym e)))) (old k h)
-    ]
