@@ -1,7 +1,6 @@
 -- What no booking changes.
-use Rattle.std.proofs.Common.{◌≡◌, ◌+◌, drop, refl, ap, ◌∙◌, subst}
-use Rattle.line.specs.Held.{held as line_held}
-use Rattle.ledger.specs.Held.{state_of, held, Left}
+use Rattle.std.proofs.Common.{◌≡◌, ◌+◌, drop, refl, ◌∙◌, subst}
+use Rattle.ledger.specs.Held.{Left}
 use Rattle.ledger.specs.declared.ledger.Ledger.{Ledger}
 
 pub left_all : (g : Ledger) → Left g g

@@ -1,27 +1,24 @@
 -- What is refused of what is lent.
-use Rattle.std.proofs.Common.{◌≡◌, ℕ, ◌+◌, ◌<◌, ◌≤◌, ltb, ◌⊎◌, List, length, Some, None, Ok, Err, Option, sym, refl, inl, inr, arith}
+use Rattle.std.proofs.Common.{◌≡◌, ℕ, ◌+◌, ◌<◌, ◌≤◌, List, length, Some, None, Option, sym, refl, arith}
 use Rattle.std.specs.Option.{option_or, option_map}
-use Rattle.std.proofs.lemmas.Bool.{lt-ltb, le-ltb, ltb-false, or_left, or_right, or_parts}
+use Rattle.std.proofs.lemmas.Bool.{le-ltb, ltb-false, or_parts}
 use Rattle.line.specs.declared.refusal.Holder.{Holder}
-use Rattle.line.specs.declared.refusal.Lent.TheVariants.{Accounts, Costs, Sheet}
 use Rattle.line.specs.declared.refusal.Refusal.{Refusal}
-use Rattle.line.specs.declared.refusal.Refusal.TheVariants.{Short}
-use Rattle.line.specs.Reading.{reading, filled}
 use Rattle.line.specs.declared.size.Size.{Size}
 use Rattle.share.specs.Answer.{costs_refused}
 use Rattle.share.proofs.Refusing.{passed, costs_small}
 use Rattle.posting.specs.Posting.{out_of_range}
 use Rattle.ledger.specs.Held.{state_of}
-use Rattle.ledger.specs.Open.{holder_refusal, blank, lent_refused, unless_refused, opening, opened_words, LentFits}
+use Rattle.ledger.specs.Open.{holder_refusal, blank, lent_refused, LentFits}
 use Rattle.ledger.specs.Room.{sheet_length}
 use Rattle.ledger.proofs.Ranges.{accounts_fit, counts_fit}
 
 -- where all is long enough, the costs are asked, then the accounts and counts
-pub lent_on : (s : Size) (accounts odd costs : List ℕ) (sheet : ℕ) → s.farms + 1 ≤ length accounts → s.farms ≤ length odd → s.parts ≤ length costs → sheet_length s.farms s.parts ≤ sheet →
-    (r : Option Refusal) (whose : Option Holder) → r ≡ costs_refused s.parts costs → whose ≡ out_of_range (state_of (blank s) accounts odd costs) →
+pub lent_on : (s : Size) (accounts odd costs : List ℕ) (sheet : ℕ) → s.farms + 1 ≤ length accounts → s.farms ≤ length odd → s.parts ≤ length costs →
+    (r : Option Refusal) (whose : Option Holder) → sheet_length s.farms s.parts ≤ sheet → r ≡ costs_refused s.parts costs → whose ≡ out_of_range (state_of (blank s) accounts odd costs) →
     lent_refused s accounts odd costs sheet ≡ option_or r (option_map (holder_refusal s.farms) whose)
 unfolding lent_refused costs_refused
-lent_on s accounts odd costs sheet a o c h r whose is off = rw (is, off, le-ltb _ _ a, le-ltb _ _ o, le-ltb _ _ c, le-ltb _ _ h) refl
+lent_on s accounts odd costs sheet a o c r whose h is off = rw (is, off, le-ltb _ _ a, le-ltb _ _ o, le-ltb _ _ c, le-ltb _ _ h) refl
 
 -- a refusal that is not there
 other_none : (r x : Option Refusal) → option_or r x ≡ None → (r ≡ None) × (x ≡ None)

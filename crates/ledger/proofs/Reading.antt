@@ -1,14 +1,10 @@
 -- Bytes of a row, and how they are answered.
-use Rattle.std.proofs.Common.{◌≡◌, ℕ, ◌+◌, ◌*◌, ◌≤◌, true, cond, eqb, List, length, take, drop, Ok, Err, ap, arith}
+use Rattle.std.proofs.Common.{◌≡◌, ℕ, ◌+◌, ◌*◌, ◌≤◌, true, cond, eqb, List, length, take, drop, Err, ap, arith}
 use Rattle.std.proofs.lemmas.List.{length-take-le, length-drop}
 use Rattle.std.proofs.lemmas.Bool.{eq-eqb}
-use Rattle.line.specs.declared.refusal.Refusal.{Refusal}
 use Rattle.line.specs.declared.refusal.Refusal.TheVariants.{Length}
-use Rattle.account.specs.Booking.{reading}
-use Rattle.account.specs.declared.booking.Booking.{Booking}
-use Rattle.posting.specs.Run.{Answer, step, answer, entry}
+use Rattle.posting.specs.Run.{step, answer, entry}
 use Rattle.posting.specs.State.{State}
-use Rattle.ledger.specs.Posted.{Posted}
 use Rattle.ledger.specs.Row.{answered, left_by}
 
 -- seven bytes of a row are its booking

@@ -1,5 +1,5 @@
 -- Rows of words: a word that is written is the change of the state at one place.
-use Rattle.std.proofs.Common.{◌≡◌, ℕ, ◌+◌, ◌<◌, ◌≤◌, false, cond, List, ◌++◌, length, take, replicate, set, pos, ◌+ℤ◌, ◌-ℤ◌, sym, refl, ap, ◌∙◌, subst, ap₂, inl, inr, add-zero, arith, length-append, w64, to_z}
+use Rattle.std.proofs.Common.{◌≡◌, ℕ, ◌+◌, ◌<◌, ◌≤◌, false, cond, List, ◌++◌, length, take, replicate, set, pos, ◌+ℤ◌, ◌-ℤ◌, sym, refl, ap, ◌∙◌, subst, ap₂, inl, inr, add-zero, arith, w64, to_z}
 use mathlib.Core.Path.{fun_ext}
 use lib.ListN.{length-replicate}
 use lib.IntN.{+ℤ_idr}

@@ -24,7 +24,6 @@ use line::refusal::{Holder, Refusal};
 use number::cents::Cents;
 
 // The word of an account after so many cents, in range or not.
-#[tactic(auto, using(account::proofs::Ranges::range_ends), unfolding(account::specs::Limits::account_most))]
 fn moved(account: u64, cents: i64) -> u64
     requires range { in_range (to_z w64 account) ≡ true }
     requires low { neg_ℤ (pos (2 ^ 62)) ≤ℤ cents }
@@ -44,6 +43,7 @@ fn settle(sums: &[u64], accounts: &mut [u64]) -> Cents
     ensures cooperative { account_at accounts.new (length sums.now) ≡ account_at accounts.old (length sums.now) +ℤ pos (sum (length sums.now) (at sums.now)) }
 {
     let mut total: u64 = 0;
+    // accounts are written by number: after a zip with `iter_mut` a proof knows how many there are, and no account
     for (i, sum) in sums.iter().enumerate() {
         accounts[i] = moved(accounts[i], -(*sum as i64));
         total += *sum;
@@ -101,7 +101,7 @@ fn front<const N: usize>(row: &[u64], n: usize) -> [u64; N]
     numbers
 }
 
-// The accounts and the counts of odd cents that a closing would leave.
+// The accounts and the counts of odd cents that a closing would leave, in rows like the ledger's, which are copied as they are.
 #[derive(Drop)]
 struct Books {
     accounts: [u64; MOST_FARMS as usize + 1],

@@ -46,6 +46,7 @@ impl Ledger<'_, '_, '_> {
         if answers.len() < row.len().div_ceil(BOOKING_BYTES) {
             return Err(Refusal::Short(Lent::Answers));
         }
+        // answers are written by number: after a zip with `iter_mut` a proof knows how many there are, and no answer
         for (k, bytes) in row.chunks_exact(BOOKING_BYTES).enumerate() {
             answers[k] = self.book(k, bytes);
         }
