@@ -14,13 +14,14 @@ pub enum Booking {
     Closing,
 }
 
-// How a booking is answered.
+// What is done by a booking that is taken.
 #[derive(Clone, Copy, PartialEq, Eq, Debug)]
-pub enum Answer {
+pub enum Done {
     // The cost or the payment is booked.
     Booked,
     // The year is closed: what all farms were booked together.
     Closed(Cents),
-    // Nothing is booked.
-    Refused(Refusal),
 }
+
+// How a booking is answered: what is done, or why nothing is booked.
+pub type Answer = Result<Done, Refusal>;

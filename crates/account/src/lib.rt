@@ -3,5 +3,6 @@
 
 pub mod balance;
 pub mod booking;
+mod kind;
 pub mod limits;
 pub mod read;

@@ -1,7 +1,6 @@
 -- What no booking changes.
-use Rattle.std.proofs.Common.{◌≡◌, ◌+◌, drop, refl, ap, ◌∙◌, subst}
-use Rattle.line.specs.Held.{held as line_held}
-use Rattle.ledger.specs.Held.{state_of, held, Left}
+use Rattle.std.proofs.Common.{◌≡◌, ◌+◌, drop, refl, ◌∙◌, subst}
+use Rattle.ledger.specs.Held.{Left}
 use Rattle.ledger.specs.declared.ledger.Ledger.{Ledger}
 
 pub left_all : (g : Ledger) → Left g g
@@ -17,10 +16,6 @@ left_all g = record {
   costs_name = refl;
   sheet_name = refl;
 }
-
--- the line is the same
-pub left_state : (g h : Ledger) → Left g h → held h ≡ state_of (line_held g.line.now) h.accounts.now h.odd.now h.costs.now
-left_state g h left = ap (λ l. state_of (line_held l) h.accounts.now h.odd.now h.costs.now) left.line
 
 -- one change, and then another
 pub left_then : (f g h : Ledger) → Left f g → Left g h → Left f h

@@ -1,43 +1,24 @@
 -- What is refused of what is lent.
-use Rattle.std.proofs.Common.{◌≡◌, ℕ, ◌+◌, ◌<◌, ◌≤◌, ltb, ◌⊎◌, List, length, Some, None, Ok, Err, Option, sym, refl, inl, inr, arith}
+use Rattle.std.proofs.Common.{◌≡◌, ℕ, ◌+◌, ◌<◌, ◌≤◌, List, length, Some, None, Option, sym, refl, arith}
 use Rattle.std.specs.Option.{option_or, option_map}
-use Rattle.std.proofs.lemmas.Bool.{lt-ltb, le-ltb, ltb-false, or_left, or_right, or_parts}
+use Rattle.std.proofs.lemmas.Bool.{le-ltb, ltb-false, or_parts}
 use Rattle.line.specs.declared.refusal.Holder.{Holder}
-use Rattle.line.specs.declared.refusal.Lent.TheVariants.{Accounts, Costs, Sheet}
 use Rattle.line.specs.declared.refusal.Refusal.{Refusal}
-use Rattle.line.specs.declared.refusal.Refusal.TheVariants.{Short}
-use Rattle.line.specs.Reading.{reading, filled}
 use Rattle.line.specs.declared.size.Size.{Size}
 use Rattle.share.specs.Answer.{costs_refused}
 use Rattle.share.proofs.Refusing.{passed, costs_small}
 use Rattle.posting.specs.Posting.{out_of_range}
 use Rattle.ledger.specs.Held.{state_of}
-use Rattle.ledger.specs.Open.{holder_refusal, blank, lent_refused, unless_refused, opening, opened_words, LentFits}
+use Rattle.ledger.specs.Open.{holder_refusal, blank, lent_refused, LentFits}
 use Rattle.ledger.specs.Room.{sheet_length}
 use Rattle.ledger.proofs.Ranges.{accounts_fit, counts_fit}
 
-module _ (s : Size) (accounts odd costs : List ℕ) (sheet : ℕ) where
-  pub lent_accounts : (length accounts < s.farms + 1) ⊎ ((s.farms + 1 ≤ length accounts) × (length odd < s.farms)) → lent_refused s accounts odd costs sheet ≡ Some (Short Accounts)
-  unfolding lent_refused
-  lent_accounts (inl h) = rw (or_left _ (ltb (length odd) s.farms) (lt-ltb (length accounts) (s.farms + 1) h)) refl
-  lent_accounts (inr h) = rw (or_right (ltb (length accounts) (s.farms + 1)) _ (lt-ltb (length odd) s.farms h.1)) refl
-
-  module _ (a : s.farms + 1 ≤ length accounts) (o : s.farms ≤ length odd) where
-    pub lent_costs : length costs < s.parts → lent_refused s accounts odd costs sheet ≡ Some (Short Costs)
-    unfolding lent_refused
-    lent_costs h = rw (le-ltb _ _ a, le-ltb _ _ o, lt-ltb _ _ h) refl
-
-    module _ (c : s.parts ≤ length costs) where
-      pub lent_sheet : sheet < sheet_length s.farms s.parts → lent_refused s accounts odd costs sheet ≡ Some (Short Sheet)
-      unfolding lent_refused
-      lent_sheet h = rw (le-ltb _ _ a, le-ltb _ _ o, le-ltb _ _ c, lt-ltb _ _ h) refl
-
-      -- all is long enough: the costs are asked, then the accounts and counts
-      pub lent_on : (r : Option Refusal) (whose : Option Holder) → sheet_length s.farms s.parts ≤ sheet →
-          r ≡ costs_refused s.parts costs → whose ≡ out_of_range (state_of (blank s) accounts odd costs) →
-          lent_refused s accounts odd costs sheet ≡ option_or r (option_map (holder_refusal s.farms) whose)
-      unfolding lent_refused costs_refused
-      lent_on r whose h is off = rw (is, off, le-ltb _ _ a, le-ltb _ _ o, le-ltb _ _ c, le-ltb _ _ h) refl
+-- where all is long enough, the costs are asked, then the accounts and counts
+pub lent_on : (s : Size) (accounts odd costs : List ℕ) (sheet : ℕ) → s.farms + 1 ≤ length accounts → s.farms ≤ length odd → s.parts ≤ length costs →
+    (r : Option Refusal) (whose : Option Holder) → sheet_length s.farms s.parts ≤ sheet → r ≡ costs_refused s.parts costs → whose ≡ out_of_range (state_of (blank s) accounts odd costs) →
+    lent_refused s accounts odd costs sheet ≡ option_or r (option_map (holder_refusal s.farms) whose)
+unfolding lent_refused costs_refused
+lent_on s accounts odd costs sheet a o c r whose h is off = rw (is, off, le-ltb _ _ a, le-ltb _ _ o, le-ltb _ _ c, le-ltb _ _ h) refl
 
 -- a refusal that is not there
 other_none : (r x : Option Refusal) → option_or r x ≡ None → (r ≡ None) × (x ≡ None)
@@ -71,21 +52,3 @@ lent_fine s accounts odd costs sheet h =
       odd_fit = counts_fit (blank s) accounts odd costs nobody;
       costs_fit = costs_small s.parts costs ranges.0;
     }
-
--- the answer, and the words after it
-module _ (b words accounts odd costs : List ℕ) (sheet : ℕ) where
-  pub opening_line : (e : Refusal) → reading b (length words) ≡ Err e → opening b (length words) accounts odd costs sheet ≡ Err e
-  unfolding opening
-  opening_line e h = rw h refl
-
-  pub opening_lent : (s : Size) (r : Option Refusal) → reading b (length words) ≡ Ok s → r ≡ lent_refused s accounts odd costs sheet → opening b (length words) accounts odd costs sheet ≡ unless_refused r s
-  unfolding opening
-  opening_lent s r h is = rw (h, is) refl
-
-  pub words_kept : (e : Refusal) → opening b (length words) accounts odd costs sheet ≡ Err e → words ≡ opened_words b words accounts odd costs sheet
-  unfolding opened_words
-  words_kept e h = rw h refl
-
-  pub words_filled : (s : Size) → opening b (length words) accounts odd costs sheet ≡ Ok s → filled b words ≡ opened_words b words accounts odd costs sheet
-  unfolding opened_words
-  words_filled s h = rw h refl

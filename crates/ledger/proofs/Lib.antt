@@ -4,4 +4,5 @@ mod Lefts
 pub mod Ranges
 pub mod Lending
 mod Reading
+mod Cuts
 mod Sounds

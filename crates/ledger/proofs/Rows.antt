@@ -1,8 +1,9 @@
 -- Rows of words: a word that is written is the change of the state at one place.
-use Rattle.std.proofs.Common.{◌≡◌, ℕ, ◌+◌, ◌<◌, ◌≤◌, false, cond, List, length, set, pos, ◌+ℤ◌, ◌-ℤ◌, sym, refl, ap, ◌∙◌, subst, ap₂, inl, inr, add-zero, arith, w64, to_z}
+use Rattle.std.proofs.Common.{◌≡◌, ℕ, ◌+◌, ◌<◌, ◌≤◌, false, cond, List, ◌++◌, length, take, replicate, set, pos, ◌+ℤ◌, ◌-ℤ◌, sym, refl, ap, ◌∙◌, subst, ap₂, inl, inr, add-zero, arith, w64, to_z}
 use mathlib.Core.Path.{fun_ext}
+use lib.ListN.{length-replicate}
 use lib.IntN.{+ℤ_idr}
-use Rattle.std.proofs.lemmas.List.{get_or-set_same, get_or-set_other}
+use Rattle.std.proofs.lemmas.List.{get_or_append_left, get_or-take, length-take-le, get_or-set_same, get_or-set_other, get_or-replicate}
 use Rattle.std.proofs.lemmas.Bool.{cases_eq, cases_lt, lt-ltb, le-ltb}
 use Rattle.number.specs.Sum.{sum, one}
 use Rattle.number.specs.declared.cents.Cents.{Cents}
@@ -66,12 +67,12 @@ module _ (l : Line) (accounts odd costs : List ℕ) where
       refl
 
   pub payment_rows : (f : Farm) (c : Cents) (w : ℕ) → f.0 < l.farms → l.farms < length accounts →
-      to_z w64 w ≡ account_at accounts f.0 +ℤ pos c.0 →
+      to_z w64 w ≡ (state_of l accounts odd costs).accounts f.0 +ℤ pos c.0 →
       state_of l (set accounts f.0 w) odd costs ≡ booked (state_of l accounts odd costs) (Payment f c)
   unfolding booked
   payment_rows f c w i enough is =
       state_same _ _ refl
-      (inside_set l.farms (pos 0) (to_z w64) (λ z n. z +ℤ pos n) +ℤ_idr accounts f.0 w c.0 i (omega arith) is)
+      (inside_set l.farms (pos 0) (to_z w64) (λ z n. z +ℤ pos n) +ℤ_idr accounts f.0 w c.0 i (omega arith) (is ∙ ap (λ z. z +ℤ pos c.0) (inside_below l.farms (pos 0) (account_at accounts) f.0 i)))
       (ap (to_z w64) (get_or-set_other accounts f.0 l.farms w 0 (λ q. omega arith)))
       refl
       refl
@@ -109,23 +110,20 @@ module _ (l : Line) (accounts odd costs : List ℕ) where
         ∙ odds_same l (once l) (at costs) s.costs (at odd) s.odd l.parts (λ e k. sym (inside_below l.parts 0 (at costs) e k)) (λ j k. sym (inside_below l.farms 0 (at odd) j k)) l.parts (omega arith) i h)
         (λ i h. sym (odds_outside l (once l) s.costs s.odd i (λ e. outside i e h) l.parts ∙ inside_past l.farms 0 (at odd) i h)))
 
--- rows with no costs
-pub cleared_rows : (l : Line) (accounts accounts' odd odd' costs costs' : List ℕ) → accounts' ≡ accounts → odd' ≡ odd → ((e : ℕ) → e < l.parts → at costs' e ≡ 0) →
+-- rows that agree with others below the farms, and have no costs
+pub cleared_rows : (l : Line) (accounts accounts' odd odd' costs costs' : List ℕ) →
+    ((i : ℕ) → i ≤ l.farms → at accounts' i ≡ at accounts i) → ((i : ℕ) → i < l.farms → at odd' i ≡ at odd i) → ((e : ℕ) → e < l.parts → at costs' e ≡ 0) →
     state_of l accounts' odd' costs' ≡ cleared (state_of l accounts odd costs)
 cleared_rows l accounts accounts' odd odd' costs costs' a o c =
-    ap₂ (λ x y. state_of l x y costs') a o ∙ state_same _ _ refl refl refl (inside_is l.parts 0 (at costs') (λ _. 0) c (λ _ _. refl)) refl
+    state_same _ _ refl (inside_same l.farms (pos 0) _ _ (λ i h. ap (to_z w64) (a i (omega arith)))) (ap (to_z w64) (a l.farms (omega arith)))
+    (inside_is l.parts 0 (at costs') (λ _. 0) c (λ _ _. refl)) (inside_same l.farms 0 _ _ o)
 
--- rows that agree below the farms and the parts hold the same state
-pub rows_same : (l : Line) (accounts accounts' odd odd' costs costs' : List ℕ) →
-    ((i : ℕ) → i ≤ l.farms → at accounts i ≡ at accounts' i) → ((i : ℕ) → i < l.farms → at odd i ≡ at odd' i) → ((e : ℕ) → e < l.parts → at costs e ≡ at costs' e) →
-    state_of l accounts odd costs ≡ state_of l accounts' odd' costs'
-rows_same l accounts accounts' odd odd' costs costs' a o c =
-    state_same _ _ refl (inside_same l.farms (pos 0) _ _ (λ i h. ap (to_z w64) (a i (omega arith)))) (ap (to_z w64) (a l.farms (omega arith))) (inside_same l.parts 0 _ _ c) (inside_same l.farms 0 _ _ o)
+-- what is copied to the front of a row
+pub front : (n : ℕ) (new from rest : List ℕ) → new ≡ take n from → n ≤ length from → (i : ℕ) → i < n → at (new ++ rest) i ≡ at from i
+front n new from rest is room i h =
+    get_or_append_left new rest 0 i (omega (arith, ap length is, length-take-le n from room)) ∙ ap (λ xs. at xs i) is ∙ get_or-take n from i 0 h
 
--- what holds of some words of a row holds after one is written
-pub set_keeps : (P : ℕ → Type 0) (Q : ℕ → Type 0) (row : List ℕ) (i v : ℕ) → i < length row → P v → ((k : ℕ) → Q k → P (at row k)) → (k : ℕ) → Q k → P (at (set row i v) k)
-set_keeps P Q row i v room new old k h =
-    elim (cases_eq i k) [
-      | inl p ↦ subst (λ x. P (at (set row i v) x)) p (subst P (sym (get_or-set_same row i v 0 room)) new)
-      | inr q ↦ subst P (sym (get_or-set_other row i k v 0 (λ e. q (sym e)))) (old k h)
-    ]
+-- what is filled with zeros
+pub filled_zero : (n : ℕ) (new rest : List ℕ) → new ≡ replicate n 0 → (i : ℕ) → i < n → at (new ++ rest) i ≡ 0
+filled_zero n new rest is i h =
+    get_or_append_left new rest 0 i (omega (arith, ap length is, length-replicate {A = ℕ} n 0)) ∙ ap (λ xs. at xs i) is ∙ get_or-replicate n i 0 0 h

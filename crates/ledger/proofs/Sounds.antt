@@ -1,14 +1,13 @@
 -- The state that a ledger holds is sound, so that what is promised of rows holds of the rows that it books.
-use Rattle.std.proofs.Common.{◌≡◌, ℕ, ◌%◌, ◌<◌, List, length, get_or, drop, pos, sym, ap, ◌∙◌, subst, arith}
+use Rattle.std.proofs.Common.{◌≡◌, ℕ, ◌%◌, ◌<◌, List, length, get_or, drop, pos, Ok, Err, sym, ap, ◌∙◌, subst, arith}
 use Rattle.line.specs.declared.refusal.Refusal.TheVariants.{Length}
 use Rattle.line.specs.Limits.{costs_end}
 use Rattle.account.specs.Range.{in_range, account_at}
-use Rattle.account.specs.declared.booking.Answer.{Answer}
-use Rattle.account.specs.declared.booking.Answer.TheVariants.{Booked, Refused}
+use Rattle.account.specs.declared.booking.Done.TheVariants.{Booked}
 use Rattle.share.specs.Answer.{at}
 use Rattle.cents.specs.Limits.{counts_end}
 use Rattle.posting.specs.Laws.{Sound, Laws}
-use Rattle.posting.specs.Run.{run, answer, entry, entries, bookings}
+use Rattle.posting.specs.Run.{Answer, run, answer, entry, entries, bookings}
 use Rattle.posting.specs.State.{State}
 use Rattle.posting.proofs.Laws.{rows_right}
 use Rattle.ledger.specs.Held.{held}
@@ -30,8 +29,8 @@ ledger_sound g =
 
 -- what is known after the last booking of a row
 pub row_done : (g : Ledger) (t : State) (row : List ℕ) (before after : List Answer) (k : ℕ) → k ≡ bookings row → t ≡ run (held g) (entries row k) →
-    ((j : ℕ) → j < k → get_or after j Booked ≡ answer j (run (held g) (entries row j)) (entry row j)) →
-    (0 < length row % 7 → get_or after (bookings row) Booked ≡ Refused (Length (length row))) → drop (answers_of row) after ≡ drop (answers_of row) before →
+    ((j : ℕ) → j < k → get_or after j (Ok Booked) ≡ answer j (run (held g) (entries row j)) (entry row j)) →
+    (0 < length row % 7 → get_or after (bookings row) (Ok Booked) ≡ Err (Length (length row))) → drop (answers_of row) after ≡ drop (answers_of row) before →
     Done (held g) row before t after
 row_done g t row before after k all is each end rest =
     let state = is ∙ ap (λ n. run (held g) (entries row n)) all in

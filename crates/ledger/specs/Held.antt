@@ -1,5 +1,7 @@
 -- The state that the rows lent to a ledger hold, and what no booking changes.
-use Rattle.std.specs.Prelude.{◌≡◌, ℕ, ◌+◌, cond, List, drop, pos, nat_lt}
+use Rattle.std.specs.Prelude.{◌≡◌, ℕ, ◌+◌, ◌<◌, cond, List, drop, ℤ, pos, nat_lt}
+use Rattle.line.specs.declared.refusal.Holder.{Holder}
+use Rattle.line.specs.declared.refusal.Holder.TheVariants.{Farm as OfFarm, Cooperative}
 use Rattle.line.specs.Held.{held as line_held}
 use Rattle.line.specs.Line.{Line}
 use Rattle.account.specs.Range.{account_at}
@@ -24,6 +26,21 @@ state_of l accounts odd costs = record {
 -- the state that a ledger holds
 abbrev pub held : Ledger → State
 held g = state_of (line_held g.line.now) g.accounts.now g.odd.now g.costs.now
+
+-- there is such a holder among n farms and the cooperative
+abbrev pub IsHolder : ℕ → Holder → Type 0
+IsHolder n (OfFarm f) = f.0 < n
+IsHolder n Cooperative = Unit {0}
+
+-- where a holder's account stands in a row: n farms' accounts by their numbers, then the cooperative's
+abbrev pub place_of : ℕ → Holder → ℕ
+place_of n (OfFarm f) = f.0
+place_of n Cooperative = n
+
+-- a holder's account
+abbrev pub balance_of : State → Holder → ℤ
+balance_of s (OfFarm f) = s.accounts f.0
+balance_of s Cooperative = s.cooperative
 
 -- the state where no costs are left
 abbrev pub cleared : State → State

@@ -1,23 +1,24 @@
 -- What opening a ledger answers, and what is known of one that is open.
-use Rattle.std.specs.Prelude.{ℕ, ◌+◌, ◌<◌, ◌≤◌, false, cond, ◌||◌, List, length, is_ok, Some, None, Ok, Err, Option, Result, nat_lt}
+use Rattle.std.specs.Prelude.{◌≡◌, ℕ, ◌+◌, ◌<◌, ◌≤◌, false, cond, ◌||◌, List, length, is_ok, Some, None, Ok, Err, Option, Result, nat_lt}
+use Rattle.std.specs.Borrow.{MutBor}
 use Rattle.std.specs.Option.{option_or, option_map}
 use Rattle.line.specs.declared.refusal.Holder.{Holder}
-use Rattle.line.specs.declared.refusal.Holder.TheVariants.{Farm as OfFarm, Cooperative}
 use Rattle.line.specs.declared.refusal.Lent.TheVariants.{Accounts, Costs, Sheet}
 use Rattle.line.specs.declared.refusal.Refusal.{Refusal}
 use Rattle.line.specs.declared.refusal.Refusal.TheVariants.{Account, Short}
 use Rattle.line.specs.Line.{Line}
 use Rattle.line.specs.Reading.{reading, filled, and_then, Taken}
+use Rattle.line.specs.declared.line.Line.{Line as TheLine}
 use Rattle.line.specs.declared.size.Size.{Size}
 use Rattle.share.specs.Answer.{large_refused}
 use Rattle.posting.specs.Posting.{out_of_range}
-use Rattle.ledger.specs.Held.{state_of}
+use Rattle.ledger.specs.Held.{state_of, place_of}
+use Rattle.ledger.specs.declared.ledger.Ledger.{Ledger}
 use Rattle.ledger.specs.Room.{sheet_length, AccountsFit, CountsFit, CostsFit}
 
--- an account or a count that is lent out of range is refused at the farm, the cooperative's at the number of farms
+-- an account or a count that is lent out of range is refused where the account stands
 abbrev pub holder_refusal : ℕ → Holder → Refusal
-holder_refusal n (OfFarm f) = Account f.0 (OfFarm f)
-holder_refusal n Cooperative = Account n Cooperative
+holder_refusal n whose = Account (place_of n whose) whose
 
 -- a line of this size: who uses it has no part in what is in range
 abbrev pub blank : Size → Line
@@ -59,3 +60,11 @@ pub record LentFits (s : Size) (accounts odd costs : List ℕ) (sheet : ℕ) : T
 pub record Opened (b words accounts odd costs : List ℕ) (sheet : ℕ) (s : Size) : Type 0 where
   pub line : Taken b words s
   pub lent : LentFits s accounts odd costs sheet
+
+-- a ledger over just these loans: of the line, of accounts, counts and costs, and of the bytes for a sheet
+pub record Over (l : MutBor TheLine) (a o c s : MutBor (List ℕ)) (g : Ledger) : Type 0 where
+  pub line : g.line ≡ l
+  pub accounts : g.accounts ≡ a
+  pub odd : g.odd ≡ o
+  pub costs : g.costs ≡ c
+  pub sheet : g.sheet ≡ s

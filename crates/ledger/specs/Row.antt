@@ -4,15 +4,14 @@ use Rattle.line.specs.declared.refusal.Lent.TheVariants.{Answers}
 use Rattle.line.specs.declared.refusal.Refusal.{Refusal}
 use Rattle.line.specs.declared.refusal.Refusal.TheVariants.{Length, Short}
 use Rattle.account.specs.Booking.{meant}
-use Rattle.account.specs.declared.booking.Answer.{Answer}
-use Rattle.account.specs.declared.booking.Answer.TheVariants.{Booked, Refused}
+use Rattle.account.specs.declared.booking.Done.TheVariants.{Booked}
 use Rattle.posting.specs.Laws.{Laws}
-use Rattle.posting.specs.Run.{step, run, answer, entry, entries, bookings}
+use Rattle.posting.specs.Run.{Answer, step, run, answer, entry, entries, bookings}
 use Rattle.posting.specs.State.{State}
 
 -- how the bytes at place k of a row are answered: other than seven are refused at their number
 unfoldable pub answered : ℕ → State → List ℕ → Answer
-answered k s bytes = cond (length bytes == 7) (answer k s (meant bytes)) (Refused (Length (length bytes)))
+answered k s bytes = cond (length bytes == 7) (answer k s (meant bytes)) (Err (Length (length bytes)))
 
 -- the state after them
 unfoldable pub left_by : State → List ℕ → State
@@ -30,8 +29,8 @@ row_refused row lent = cond (nat_lt lent (answers_of row)) (Some (Short Answers)
 -- And what is promised of every row holds of this one.
 pub record Done (s : State) (row : List ℕ) (before : List Answer) (t : State) (after : List Answer) : Type 0 where
   pub state : t ≡ run s (entries row (bookings row))
-  pub each : (k : ℕ) → k < bookings row → slice_index_or after k Booked ≡ answer k (run s (entries row k)) (entry row k)
-  pub end : 0 < length row % 7 → slice_index_or after (bookings row) Booked ≡ Refused (Length (length row))
+  pub each : (k : ℕ) → k < bookings row → slice_index_or after k (Ok Booked) ≡ answer k (run s (entries row k)) (entry row k)
+  pub end : 0 < length row % 7 → slice_index_or after (bookings row) (Ok Booked) ≡ Err (Length (length row))
   pub rest : drop (answers_of row) after ≡ drop (answers_of row) before
   pub laws : Laws s (entries row (bookings row)) t
 

@@ -1,8 +1,7 @@
 // The closing of a year: computed whole, then tested, then booked.
-ghost use Rattle.std.specs.Prelude.{◌≡◌, ℕ, ◌+◌, ◌^◌, ◌<◌, ◌≤◌, true, not, ◌||◌, List, length, pos, ◌+ℤ◌, ◌-ℤ◌, IfOk, nat_le};
+ghost use Rattle.std.specs.Prelude.{◌≡◌, ℕ, ◌^◌, ◌<◌, ◌≤◌, true, not, ◌||◌, List, length, pos, ◌+ℤ◌, ◌-ℤ◌, neg_ℤ, ◌≤ℤ◌, nat_le, position, zip};
 ghost use Rattle.std.specs.Int.{w64};
 ghost use Rattle.std.proofs.Common.{to_z};
-ghost use Rattle.std.specs.Result.{result_err};
 ghost use Rattle.number.specs.Sum.{sum};
 ghost use Rattle.line.specs.Line.{Line};
 ghost use Rattle.account.specs.Range.{in_range, account_at};
@@ -16,6 +15,7 @@ ghost use Rattle.ledger.specs.Room.{AccountsFit, CountsFit};
 
 use crate::ledger::Ledger;
 use account::balance::Balance;
+use account::booking::{Answer, Done};
 use cents::costs::split_parts;
 use cents::limits::COUNTS_END;
 use line::limits::MOST_FARMS;
@@ -23,40 +23,32 @@ use line::names::Farm;
 use line::refusal::{Holder, Refusal};
 use number::cents::Cents;
 
-// The word of an account after so much is taken out, in range or not.
-fn debited(account: u64, cents: u64) -> u64
+// The word of an account after so many cents, in range or not.
+fn moved(account: u64, cents: i64) -> u64
     requires range { in_range (to_z w64 account) ≡ true }
-    requires small { cents < 2 ^ 62 }
-    ensures { to_z w64 result ≡ to_z w64 account -ℤ pos cents }
+    requires low { neg_ℤ (pos (2 ^ 62)) ≤ℤ cents }
+    requires high { cents ≤ℤ pos (2 ^ 62) }
+    ensures { to_z w64 result ≡ to_z w64 account +ℤ cents }
 {
-    (account.cast_signed() - cents as i64).cast_unsigned()
-}
-
-// The word of an account after so much is paid in, in range or not.
-fn credited(account: u64, cents: u64) -> u64
-    requires range { in_range (to_z w64 account) ≡ true }
-    requires small { cents < 2 ^ 62 }
-    ensures { to_z w64 result ≡ to_z w64 account +ℤ pos cents }
-{
-    (account.cast_signed() + cents as i64).cast_unsigned()
+    (account.cast_signed() + cents).cast_unsigned()
 }
 
 // Takes each farm's sum from its account, puts all sums into the cooperative's, and answers what they come to.
-fn settle(sums: &[u64], farms: usize, accounts: &mut [u64]) -> Cents
-    requires sums { farms ≤ length sums.now }
-    requires room { farms < length accounts.old }
-    requires fit { AccountsFit farms accounts.old }
-    requires small { sum farms (at sums.now) < 2 ^ 62 }
-    ensures total { result.0 ≡ sum farms (at sums.now) }
-    ensures farms { (i : ℕ) → i < farms → account_at accounts.new i ≡ account_at accounts.old i -ℤ pos (at sums.now i) }
-    ensures cooperative { account_at accounts.new farms ≡ account_at accounts.old farms +ℤ pos (sum farms (at sums.now)) }
+fn settle(sums: &[u64], accounts: &mut [u64]) -> Cents
+    requires room { length sums.now < length accounts.old }
+    requires fit { AccountsFit (length sums.now) accounts.old }
+    requires small { sum (length sums.now) (at sums.now) < 2 ^ 62 }
+    ensures total { result.0 ≡ sum (length sums.now) (at sums.now) }
+    ensures farms { (i : ℕ) → i < length sums.now → account_at accounts.new i ≡ account_at accounts.old i -ℤ pos (at sums.now i) }
+    ensures cooperative { account_at accounts.new (length sums.now) ≡ account_at accounts.old (length sums.now) +ℤ pos (sum (length sums.now) (at sums.now)) }
 {
     let mut total: u64 = 0;
-    for i in 0..farms {
-        accounts[i] = debited(accounts[i], sums[i]);
-        total += sums[i];
+    // accounts are written by number: after a zip with `iter_mut` a proof knows how many there are, and no account
+    for (i, sum) in sums.iter().enumerate() {
+        accounts[i] = moved(accounts[i], -(*sum as i64));
+        total += *sum;
     }
-    accounts[farms] = credited(accounts[farms], total);
+    accounts[sums.len()] = moved(accounts[sums.len()], total as i64);
     Cents(total)
 }
 
@@ -68,10 +60,21 @@ fn is_out(account: u64) -> bool
 }
 
 // Whether a farm's account or its count of odd cents is out of range.
+#[tactic(auto, unfolding(cents::specs::Limits::counts_end))]
 fn is_off(account: u64, count: u64) -> bool
     ensures { result ≡ (not (in_range (to_z w64 account)) || nat_le counts_end count) }
 {
     is_out(account) || count >= COUNTS_END
+}
+
+// The first farm whose account or count is out of range.
+fn first_off(accounts: &[u64], odd: &[u64]) -> Option<usize>
+    ensures { result ≡ position (λ p. not (in_range (to_z w64 p.0)) || nat_le counts_end p.1) (zip accounts.now odd.now) }
+{
+    accounts
+        .iter()
+        .zip(odd)
+        .position(|(account, count)| is_off(*account, *count))
 }
 
 // Whose account or count is out of range: the first farm's that is, and after all farms the cooperative's.
@@ -80,76 +83,75 @@ pub(crate) fn whose_off(accounts: &[u64], odd: &[u64], farms: u16) -> Option<Hol
     requires odd { farms ≤ length odd.now }
     ensures { (l : Line) (costs : List ℕ) → l.farms ≡ farms → result ≡ out_of_range (state_of l accounts.now odd.now costs) }
 {
-    for i in 0..farms {
-        let at = i as usize;
-        if is_off(accounts[at], odd[at]) {
-            return Some(Holder::Farm(Farm(i)));
-        }
+    let n = farms as usize;
+    match first_off(&accounts[..n], odd) {
+        Some(i) => Some(Holder::Farm(Farm(i as u16))),
+        None => is_out(accounts[n]).then_some(Holder::Cooperative),
     }
-    if is_out(accounts[farms as usize]) {
-        return Some(Holder::Cooperative);
-    }
-    None
+}
+
+// The first n numbers of a row, in an array with room for more.
+fn front<const N: usize>(row: &[u64], n: usize) -> [u64; N]
+    requires lent { n ≤ length row.now }
+    requires room { n ≤ N }
+    ensures { (i : ℕ) → i < n → at result i ≡ at row.now i }
+{
+    let mut numbers = [0; N];
+    numbers[..n].copy_from_slice(&row[..n]);
+    numbers
+}
+
+// The accounts and the counts of odd cents that a closing would leave, in rows like the ledger's, which are copied as they are.
+#[derive(Drop)]
+struct Books {
+    accounts: [u64; MOST_FARMS as usize + 1],
+    odd: [u64; MOST_FARMS as usize],
 }
 
 impl Ledger<'_, '_, '_> {
-    // Writes the accounts and counts that a closing would leave, and answers what all farms pay.
-    fn compute(&self, accounts: &mut [u64], odd: &mut [u64]) -> Cents
-        requires accounts { self.now.line.now.size.farms < length accounts.old }
-        requires odd { self.now.line.now.size.farms ≤ length odd.old }
-        ensures total { result.0 ≡ closing_total (held self.now) }
-        ensures after { cleared (state_of (held self.now).line accounts.new odd.new self.now.costs.now) ≡ booked (held self.now) Closing }
+    // What a closing would leave, and what all farms would pay.
+    #[tactic(auto, unfolding(line::specs::Limits::most_farms))]
+    fn compute(&self) -> (Books, Cents)
+        ensures total { result.1.0 ≡ closing_total (held self.now) }
+        ensures after { cleared (state_of (held self.now).line result.0.accounts result.0.odd self.now.costs.now) ≡ booked (held self.now) Closing }
     {
         let farms = self.line.size.farms as usize;
         let mut sums = [0; MOST_FARMS as usize];
-        accounts[..farms + 1].copy_from_slice(&self.accounts[..farms + 1]);
-        odd[..farms].copy_from_slice(&self.odd[..farms]);
-        split_parts(self.line, self.costs, odd, &mut sums);
-        settle(&sums, farms, accounts)
+        let mut books = Books {
+            accounts: front(self.accounts, farms + 1),
+            odd: front(self.odd, farms),
+        };
+        split_parts(self.line, self.costs, &mut books.odd, &mut sums);
+        let total = settle(&sums[..farms], &mut books.accounts);
+        (books, total)
     }
 
-    // Books the accounts and the counts of all farms, and the cooperative's account.
-    fn write(&mut self, accounts: &[u64], odd: &[u64])
-        requires accounts { self.old.line.now.size.farms < length accounts.now }
-        requires odd { self.old.line.now.size.farms ≤ length odd.now }
-        requires accounts_fit { AccountsFit self.old.line.now.size.farms accounts.now }
-        requires odd_fit { CountsFit self.old.line.now.size.farms odd.now }
-        ensures after { held self.new ≡ state_of (held self.old).line accounts.now odd.now self.old.costs.now }
+    // Books what a closing leaves: the accounts and counts of all farms, the cooperative's account, and no costs.
+    #[tactic(auto, unfolding(line::specs::Limits::most_farms))]
+    fn write(&mut self, books: &Books)
+        requires accounts_fit { AccountsFit self.old.line.now.size.farms books.now.accounts }
+        requires odd_fit { CountsFit self.old.line.now.size.farms books.now.odd }
+        ensures after { held self.new ≡ cleared (state_of (held self.old).line books.now.accounts books.now.odd self.old.costs.now) }
         ensures left { Left self.old self.new }
     {
         let farms = self.line.size.farms as usize;
-        for i in 0..farms {
-            self.accounts[i] = accounts[i];
-            self.odd[i] = odd[i];
-        }
-        self.accounts[farms] = accounts[farms];
-    }
-
-    // Leaves no costs.
-    fn clear(&mut self)
-        ensures after { held self.new ≡ cleared (held self.old) }
-        ensures left { Left self.old self.new }
-    {
         let parts = self.line.size.parts as usize;
-        for e in 0..parts {
-            self.costs[e] = 0;
-        }
+        self.accounts[..farms + 1].copy_from_slice(&books.accounts[..farms + 1]);
+        self.odd[..farms].copy_from_slice(&books.odd[..farms]);
+        self.costs[..parts].fill(0);
     }
 
     // Closes the year, or refuses to and books nothing.
-    pub(crate) fn close(&mut self, at: usize) -> Result<Cents, Refusal>
-        ensures posted { Posted at (held self.old) Closing (held self.new) (result_err result) }
-        ensures total { IfOk result (λ c. c.0 ≡ closing_total (held self.old)) }
+    #[tactic(auto, unfolding(line::specs::Limits::most_farms))]
+    pub(crate) fn close(&mut self, at: usize) -> Answer
+        ensures posted { Posted at (held self.old) Closing (held self.new) result }
         ensures left { Left self.old self.new }
     {
-        let mut accounts = [0; MOST_FARMS as usize + 1];
-        let mut odd = [0; MOST_FARMS as usize];
-        let total = self.compute(&mut accounts, &mut odd);
-        if let Some(whose) = whose_off(&accounts, &odd, self.line.size.farms) {
+        let (books, total) = self.compute();
+        if let Some(whose) = whose_off(&books.accounts, &books.odd, self.line.size.farms) {
             return Err(Refusal::Account { at, whose });
         }
-        self.write(&accounts, &odd);
-        self.clear();
-        Ok(total)
+        self.write(&books);
+        Ok(Done::Closed(total))
     }
 }

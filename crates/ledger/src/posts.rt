@@ -1,16 +1,15 @@
 // Costs and payments.
-ghost use Rattle.std.specs.Prelude.{◌≡◌, ◌+◌, ◌<◌, true, ◌&&◌, pos, ◌+ℤ◌, ◌-ℤ◌, nat_lt};
-ghost use Rattle.std.specs.Int.{w64};
-ghost use Rattle.std.proofs.Common.{to_z};
-ghost use Rattle.std.specs.Result.{result_err};
+ghost use Rattle.std.specs.Prelude.{◌≡◌, ◌+◌, ◌<◌, ◌&&◌, nat_lt};
 ghost use Rattle.line.specs.Limits.{costs_end};
-ghost use Rattle.account.specs.Range.{in_range, bookable};
+ghost use Rattle.account.specs.Range.{bookable};
 ghost use Rattle.account.specs.declared.booking.Booking.TheVariants.{Cost, Payment};
-ghost use Rattle.ledger.specs.Held.{held, Left};
-ghost use Rattle.ledger.specs.Posted.{Posted, WordOf};
+ghost use Rattle.ledger.specs.Held.{held, balance_of, IsHolder, Left};
+ghost use Rattle.ledger.specs.Posted.{Posted};
 
 use crate::ledger::Ledger;
+use crate::open::account_place;
 use account::balance::Balance;
+use account::booking::{Answer, Done};
 use account::limits::BOOKING_MOST;
 use line::limits::COSTS_END;
 use line::names::{Farm, Part};
@@ -18,6 +17,7 @@ use line::refusal::{Holder, Refusal};
 use number::cents::Cents;
 
 // Whether so many cents may be booked.
+#[tactic(auto, unfolding(account::specs::Range::bookable, account::specs::Limits::booking_most))]
 fn is_bookable(cents: Cents) -> bool
     ensures { result ≡ bookable cents.0 }
 {
@@ -25,6 +25,7 @@ fn is_bookable(cents: Cents) -> bool
 }
 
 // Whether so many cents may be booked as a cost of a part that has cost so much this year.
+#[tactic(auto, unfolding(account::specs::Range::bookable, account::specs::Limits::booking_most, line::specs::Limits::costs_end))]
 fn is_cost(before: u64, cents: Cents) -> bool
     requires { before < costs_end }
     ensures { result ≡ (bookable cents.0 && nat_lt (before + cents.0) costs_end) }
@@ -32,26 +33,20 @@ fn is_cost(before: u64, cents: Cents) -> bool
     is_bookable(cents) && before + cents.0 < COSTS_END
 }
 
-// The word of an account after so much is paid in: None if it would be out of range.
-fn paid_in(word: u64, cents: Cents) -> Option<u64>
-    requires { in_range (to_z w64 word) ≡ true }
-    ensures { WordOf (to_z w64 word +ℤ pos cents.0) result }
-{
-    Some(Balance::of_word(word)?.plus(cents)?.word())
-}
-
-// The word of an account after so much is taken out: None if it would be out of range.
-fn taken_out(word: u64, cents: Cents) -> Option<u64>
-    requires { in_range (to_z w64 word) ≡ true }
-    ensures { WordOf (to_z w64 word -ℤ pos cents.0) result }
-{
-    Some(Balance::of_word(word)?.minus(cents)?.word())
-}
-
 impl Ledger<'_, '_, '_> {
+    // The balance of a holder's account.
+    pub fn balance(&self, whose: Holder) -> Balance
+        requires { IsHolder self.now.line.now.size.farms whose }
+        ensures { result.cents ≡ balance_of (held self.now) whose }
+    {
+        let at = account_place(self.line.size.farms, whose);
+        Balance::of_word(self.accounts[at]).unwrap()
+    }
+
     // Books a cost: it is added to the part's, and taken from the cooperative's account.
-    pub(crate) fn book_cost(&mut self, at: usize, part: Part, cents: Cents) -> Result<(), Refusal>
-        ensures posted { Posted at (held self.old) (Cost part cents) (held self.new) (result_err result) }
+    #[tactic(auto, unfolding(posting::specs::Posting::refused, posting::specs::Posting::post))]
+    pub(crate) fn book_cost(&mut self, at: usize, part: Part, cents: Cents) -> Answer
+        ensures posted { Posted at (held self.old) (Cost part cents) (held self.new) result }
         ensures left { Left self.old self.new }
     {
         if part.0 >= self.line.size.parts {
@@ -61,26 +56,19 @@ impl Ledger<'_, '_, '_> {
         if !is_cost(self.costs[e], cents) {
             return Err(Refusal::Amount(at));
         }
-        let n = self.line.size.farms as usize;
-        let Some(word) = taken_out(self.accounts[n], cents) else {
-            return Err(Refusal::Account {
-                at,
-                whose: Holder::Cooperative,
-            });
+        let whose = Holder::Cooperative;
+        let Some(balance) = self.balance(whose).minus(cents) else {
+            return Err(Refusal::Account { at, whose });
         };
-        self.accounts[n] = word;
+        self.accounts[self.line.size.farms as usize] = balance.word();
         self.costs[e] += cents.0;
-        Ok(())
+        Ok(Done::Booked)
     }
 
     // Books a payment: it goes into the farm's account.
-    pub(crate) fn book_payment(
-        &mut self,
-        at: usize,
-        farm: Farm,
-        cents: Cents,
-    ) -> Result<(), Refusal>
-        ensures posted { Posted at (held self.old) (Payment farm cents) (held self.new) (result_err result) }
+    #[tactic(auto, unfolding(posting::specs::Posting::refused, posting::specs::Posting::post))]
+    pub(crate) fn book_payment(&mut self, at: usize, farm: Farm, cents: Cents) -> Answer
+        ensures posted { Posted at (held self.old) (Payment farm cents) (held self.new) result }
         ensures left { Left self.old self.new }
     {
         if farm.0 >= self.line.size.farms {
@@ -90,13 +78,11 @@ impl Ledger<'_, '_, '_> {
             return Err(Refusal::Amount(at));
         }
         let i = farm.0 as usize;
-        let Some(word) = paid_in(self.accounts[i], cents) else {
-            return Err(Refusal::Account {
-                at,
-                whose: Holder::Farm(farm),
-            });
+        let whose = Holder::Farm(farm);
+        let Some(balance) = self.balance(whose).plus(cents) else {
+            return Err(Refusal::Account { at, whose });
         };
-        self.accounts[i] = word;
-        Ok(())
+        self.accounts[i] = balance.word();
+        Ok(Done::Booked)
     }
 }

@@ -1,12 +1,9 @@
 // Rows of bookings whose outcome is worked out by hand, over memory that is lent longer than needed.
 #![tactic(auto)]
 
-ghost use Rattle.std.specs.Prelude.{length};
-ghost use Rattle.ledger.specs.Open.{LentFits};
-
 #[cfg(test)]
 mod tests {
-    use account::booking::Answer;
+    use account::booking::{Answer, Done};
     use ledger::ledger::Ledger;
     use ledger::open::open;
     use line::line::Line;
@@ -42,28 +39,6 @@ mod tests {
         0u64.wrapping_sub(cents)
     }
 
-    // Books a row in a ledger over these rows.
-    fn book_over<'l, 'w, 'a>(
-        line: &'l mut Line<'w>,
-        accounts: &'a mut [u64],
-        odd: &'a mut [u64],
-        costs: &'a mut [u64],
-        sheet: &'a mut [u8],
-        row: &[u8],
-        answers: &mut [Answer],
-    ) -> Result<(), Refusal>
-        requires { LentFits line.old.size accounts.old odd.old costs.old (length sheet.old) }
-    {
-        let mut ledger = Ledger {
-            line,
-            accounts,
-            odd,
-            costs,
-            sheet,
-        };
-        ledger.book_row(row, answers)
-    }
-
     // Books a row, and compares the answers and what is lent after it.
     fn booked(
         rt: &impl Abort,
@@ -77,21 +52,10 @@ mod tests {
         let mut accounts = before.accounts;
         let mut odd = before.odd;
         let mut costs = before.costs;
-        let size = open(&LINE, &mut words, &accounts, &odd, &costs, &sheet)?;
-        let mut line = Line {
-            size,
-            words: &mut words,
-        };
-        let mut answers = [Answer::Booked; 3];
-        book_over(
-            &mut line,
-            &mut accounts,
-            &mut odd,
-            &mut costs,
-            &mut sheet,
-            row,
-            &mut answers,
-        )?;
+        let mut line = Line::read(&LINE, &mut words)?;
+        let mut answers = [Ok(Done::Booked); 3];
+        let mut ledger = Ledger::new(&mut line, &mut accounts, &mut odd, &mut costs, &mut sheet)?;
+        ledger.book_row(row, &mut answers)?;
         assert_eq!(rt; answers, told);
         assert_eq!(rt; accounts, after.accounts);
         assert_eq!(rt; odd, after.odd);
@@ -110,7 +74,11 @@ mod tests {
                 costs: [10, 5, 9],
             },
             &CLOSING,
-            [Answer::Closed(Cents(15)), Answer::Booked, Answer::Booked],
+            [
+                Ok(Done::Closed(Cents(15))),
+                Ok(Done::Booked),
+                Ok(Done::Booked),
+            ],
             Rows {
                 accounts: [47, owed(6), owed(6), 0, 9],
                 odd: [1, 1, 1, 9],
@@ -128,12 +96,12 @@ mod tests {
             costs: [0, MOST - 8, 9],
         };
         let row = [1, 1, 0, 7, 0, 0, 0, 2, 0, 0, 2, 0, 0, 0, 2, 0, 0];
-        let end = Answer::Refused(Refusal::Length(17));
+        let end = Err(Refusal::Length(17));
         booked(
             &rt,
             before,
             &row,
-            [Answer::Booked, Answer::Booked, end],
+            [Ok(Done::Booked), Ok(Done::Booked), end],
             Rows {
                 accounts: [MOST, 0, 0, owed(2), 9],
                 odd: [0, 0, 0, 9],
@@ -146,12 +114,12 @@ mod tests {
             before,
             &one_more,
             [
-                Answer::Refused(Refusal::Amount(0)),
-                Answer::Refused(Refusal::Account {
+                Err(Refusal::Amount(0)),
+                Err(Refusal::Account {
                     at: 1,
                     whose: Holder::Farm(Farm(0)),
                 }),
-                Answer::Booked,
+                Ok(Done::Booked),
             ],
             before,
         )
@@ -159,12 +127,12 @@ mod tests {
 
     // A closing that is refused at its place for somebody's account or count, and changes nothing.
     fn refused(rt: &impl Abort, rows: Rows, whose: Holder) -> Result<(), Fail> {
-        let no = Answer::Refused(Refusal::Account { at: 0, whose });
+        let no = Err(Refusal::Account { at: 0, whose });
         booked(
             rt,
             rows,
             &CLOSING,
-            [no, Answer::Booked, Answer::Booked],
+            [no, Ok(Done::Booked), Ok(Done::Booked)],
             rows,
         )
     }
@@ -376,23 +344,12 @@ mod tests {
         let mut odd = [0u64; 3];
         let mut costs = [4u64; 2];
         let mut sheet = [0u8; SHEET];
-        let size = open(&LINE, &mut words, &accounts, &odd, &costs, &sheet)?;
-        let mut line = Line {
-            size,
-            words: &mut words,
-        };
-        let mut answers = [Answer::Closed(Cents(1)); 1];
-        let got = book_over(
-            &mut line,
-            &mut accounts,
-            &mut odd,
-            &mut costs,
-            &mut sheet,
-            &[3, 0, 0, 0, 0, 0, 0, 3],
-            &mut answers,
-        );
+        let mut line = Line::read(&LINE, &mut words)?;
+        let mut answers = [Ok(Done::Closed(Cents(1))); 1];
+        let mut ledger = Ledger::new(&mut line, &mut accounts, &mut odd, &mut costs, &mut sheet)?;
+        let got = ledger.book_row(&[3, 0, 0, 0, 0, 0, 0, 3], &mut answers);
         assert_eq!(rt; got, Err(Refusal::Short(Lent::Answers)));
-        assert_eq!(rt; answers, [Answer::Closed(Cents(1)); 1]);
+        assert_eq!(rt; answers, [Ok(Done::Closed(Cents(1))); 1]);
         assert_eq!(rt; accounts, [0; 4]);
         assert_eq!(rt; costs, [4; 2]);
         Ok(())

@@ -1,12 +1,12 @@
 -- A row of bookings, one after the other. Where no booking can be read, nothing is booked.
-use Rattle.std.specs.Prelude.{ℕ, zero, suc, ◌*◌, ◌/◌, List, [], ◌∷◌, ◌++◌, length, take, drop, Some, None, fold, Option}
+use Rattle.std.specs.Prelude.{ℕ, zero, suc, ◌*◌, ◌/◌, List, [], ◌∷◌, ◌++◌, length, take, drop, Some, None, Ok, Err, fold, Option, Result}
 use Rattle.line.specs.declared.refusal.Refusal.{Refusal}
 use Rattle.line.specs.declared.refusal.Refusal.TheVariants.{Kind}
 use Rattle.account.specs.Booking.{meant}
-use Rattle.account.specs.declared.booking.Answer.{Answer}
-use Rattle.account.specs.declared.booking.Answer.TheVariants.{Booked, Closed, Refused}
 use Rattle.account.specs.declared.booking.Booking.{Booking}
 use Rattle.account.specs.declared.booking.Booking.TheVariants.{Cost, Payment, Closing}
+use Rattle.account.specs.declared.booking.Done.{Done}
+use Rattle.account.specs.declared.booking.Done.TheVariants.{Booked, Closed}
 use Rattle.posting.specs.State.{State}
 use Rattle.posting.specs.Posting.{closing_total, refused, post}
 
@@ -23,21 +23,25 @@ step s None = s
 abbrev pub run : State → List Entry → State
 run s row = fold step s row
 
--- how a booking that is taken is answered
-abbrev pub done : State → Booking → Answer
+-- what is done by a booking that is taken
+abbrev pub done : State → Booking → Done
 done s (Cost p c) = Booked
 done s (Payment f c) = Booked
 done s Closing = Closed (record { 0 = closing_total s })
 
--- the refusal, if there is one
-abbrev pub unless : Option Refusal → Answer → Answer
-unless (Some e) a = Refused e
-unless None a = a
+-- how a booking is answered: what is done, or why nothing is booked
+abbrev pub Answer : Type 0
+Answer = Result Done Refusal
+
+-- what is done, unless there is a refusal
+abbrev pub unless : Option Refusal → Done → Answer
+unless (Some e) d = Err e
+unless None d = Ok d
 
 -- how entry k is answered
 abbrev pub answer : ℕ → State → Entry → Answer
 answer k s (Some b) = unless (refused k s b) (done s b)
-answer k s None = Refused (Kind k)
+answer k s None = Err (Kind k)
 
 -- entry k of a row of bytes
 abbrev pub entry : List ℕ → ℕ → Entry

@@ -1,14 +1,12 @@
 // The text that tells how each booking was answered, and the accounts.
-ghost use Rattle.std.specs.Prelude.{◌≡◌, ◌<◌, true, ◌++◌, length, IfOk, string_bytes, OnOk};
-ghost use Rattle.std.specs.Int.{w64};
-ghost use Rattle.std.proofs.Common.{to_z};
-ghost use Rattle.account.specs.Range.{in_range};
-ghost use Rattle.ledger.specs.Held.{held};
-ghost use Rattle.report.specs.Report.{answer_text, answers_text, account_text, accounts_text, cooperative_text, report_text};
+ghost use Rattle.std.specs.Prelude.{◌≡◌, ◌++◌, length, IfOk, string_bytes, OnOk};
+ghost use Rattle.ledger.specs.Held.{held, balance_of, IsHolder};
+ghost use Rattle.report.specs.Report.{answer_text, answers_text, account_text, accounts_text, report_text};
 
-use account::balance::Balance;
-use account::booking::Answer;
+use account::booking::{Answer, Done};
 use ledger::ledger::Ledger;
+use line::names::Farm;
+use line::refusal::Holder;
 use std::alloc::{AllocError, Global};
 
 // Adds the line of booking k, if its answer is told.
@@ -16,56 +14,49 @@ fn push_answer(heap: Global, k: usize, answer: Answer, text: &mut String) -> Res
     ensures { OnOk result (string_bytes text.new ≡ string_bytes text.old ++ answer_text k answer) }
 {
     let told = match answer {
-        Answer::Booked => return Ok(()),
-        Answer::Closed(total) => format!(in heap; "booking {k} closed {total}\n")?,
-        Answer::Refused(refusal) => format!(in heap; "{refusal}\n")?,
+        Ok(Done::Booked) => return Ok(()),
+        Ok(Done::Closed(total)) => format!(in heap; "booking {k} closed {total}\n")?,
+        Err(refusal) => format!(in heap; "{refusal}\n")?,
     };
     text.push_str(told.as_str())
 }
 
 // The lines of the answers.
+#[tactic(auto, unfolding(crate::specs::Report::answers_text))]
 fn tell_answers(heap: Global, answers: &[Answer]) -> Result<String, AllocError>
     ensures { IfOk result (λ t. string_bytes t ≡ answers_text answers.now (length answers.now)) }
 {
     let mut text = String::new(heap);
-    for k in 0..answers.len() {
-        push_answer(heap, k, answers[k], &mut text)?;
+    for (k, answer) in answers.iter().enumerate() {
+        push_answer(heap, k, *answer, &mut text)?;
     }
     Ok(text)
 }
 
-// Adds the line of farm i, whose account the word holds.
-fn push_account(heap: Global, i: usize, word: u64, text: &mut String) -> Result<(), AllocError>
-    requires { in_range (to_z w64 word) ≡ true }
-    ensures { OnOk result (string_bytes text.new ≡ string_bytes text.old ++ account_text i (to_z w64 word)) }
+// Adds the line of a holder's account.
+fn push_account(
+    heap: Global,
+    ledger: &Ledger,
+    whose: Holder,
+    text: &mut String,
+) -> Result<(), AllocError>
+    requires { IsHolder ledger.now.line.now.size.farms whose }
+    ensures { OnOk result (string_bytes text.new ≡ string_bytes text.old ++ account_text whose (balance_of (held ledger.now) whose)) }
 {
-    let Some(balance) = Balance::of_word(word) else {
-        return Ok(());
-    };
-    let told = format!(in heap; "farm {i} {balance}\n")?;
+    let balance = ledger.balance(whose);
+    let told = format!(in heap; "{whose} {balance}\n")?;
     text.push_str(told.as_str())
 }
 
 // Adds the lines of all farms.
+#[tactic(auto, unfolding(crate::specs::Report::accounts_text))]
 fn push_accounts(heap: Global, ledger: &Ledger, text: &mut String) -> Result<(), AllocError>
     ensures { OnOk result (string_bytes text.new ≡ string_bytes text.old ++ accounts_text (held ledger.now) ledger.now.line.now.size.farms) }
 {
-    for i in 0..ledger.line.size.farms as usize {
-        push_account(heap, i, ledger.accounts[i], text)?;
+    for i in 0..ledger.line.size.farms {
+        push_account(heap, ledger, Holder::Farm(Farm(i)), text)?;
     }
     Ok(())
-}
-
-// Adds the line of the cooperative, whose account the word holds.
-fn push_cooperative(heap: Global, word: u64, text: &mut String) -> Result<(), AllocError>
-    requires { in_range (to_z w64 word) ≡ true }
-    ensures { OnOk result (string_bytes text.new ≡ string_bytes text.old ++ cooperative_text (to_z w64 word)) }
-{
-    let Some(balance) = Balance::of_word(word) else {
-        return Ok(());
-    };
-    let told = format!(in heap; "cooperative {balance}\n")?;
-    text.push_str(told.as_str())
 }
 
 // The answers that are told, in order, then the farms' accounts, then the cooperative's.
@@ -74,7 +65,6 @@ pub fn report(heap: Global, ledger: &Ledger, answers: &[Answer]) -> Result<Strin
 {
     let mut text = tell_answers(heap, answers)?;
     push_accounts(heap, ledger, &mut text)?;
-    let farms = ledger.line.size.farms as usize;
-    push_cooperative(heap, ledger.accounts[farms], &mut text)?;
+    push_account(heap, ledger, Holder::Cooperative, &mut text)?;
     Ok(text)
 }

@@ -11,15 +11,24 @@ use number::cents::Cents;
 use std::fmt;
 
 impl Balance {
+    // The balance of so many cents: None if it is out of range.
+    #[tactic(auto, unfolding(crate::specs::Range::in_range, crate::specs::Limits::account_most))]
+    fn of_cents(cents: i64) -> Option<Balance>
+        ensures { Standing cents result }
+    {
+        if (-ACCOUNT_MOST..=ACCOUNT_MOST).contains(&cents) {
+            Some(Balance { cents })
+        } else {
+            None
+        }
+    }
+
     // The balance that a word holds, read with its sign: None if it is out of range.
+    // (A `TryFrom<u64>` would be a numeric conversion, and refuse each word of 2^63 or more.)
     pub fn of_word(word: u64) -> Option<Balance>
         ensures { Standing (to_z w64 word) result }
     {
-        let cents = word.cast_signed();
-        if cents < -ACCOUNT_MOST || cents > ACCOUNT_MOST {
-            return None;
-        }
-        Some(Balance { cents })
+        Balance::of_cents(word.cast_signed())
     }
 
     // The word that holds it.
@@ -30,29 +39,19 @@ impl Balance {
     }
 
     // The balance after so much is paid in: None if it is out of range.
+    #[tactic(auto, using(crate::proofs::Ranges::range_wide))]
     pub fn plus(self, paid: Cents) -> Option<Balance>
         ensures { Standing (self.cents +ℤ pos paid.0) result }
     {
-        let room = (ACCOUNT_MOST - self.cents).cast_unsigned();
-        if paid.0 > room {
-            return None;
-        }
-        Some(Balance {
-            cents: self.cents + paid.0 as i64,
-        })
+        Balance::of_cents(self.cents.checked_add_unsigned(paid.0)?)
     }
 
     // The balance after so much is taken out: None if it is out of range.
+    #[tactic(auto, using(crate::proofs::Ranges::range_wide))]
     pub fn minus(self, taken: Cents) -> Option<Balance>
         ensures { Standing (self.cents -ℤ pos taken.0) result }
     {
-        let room = (ACCOUNT_MOST + self.cents).cast_unsigned();
-        if taken.0 > room {
-            return None;
-        }
-        Some(Balance {
-            cents: self.cents - taken.0 as i64,
-        })
+        Balance::of_cents(self.cents.checked_sub_unsigned(taken.0)?)
     }
 }
 
@@ -61,7 +60,6 @@ impl fmt::Display for Balance {
 
     // The cents, in decimal, with a sign where they are below 0.
     fn fmt<W: fmt::Write>(&self, f: &mut fmt::Formatter<W>) -> fmt::Result {
-        let n = self.cents;
-        write!(f, "{n}")
+        write!(f, "{}", self.cents)
     }
 }

@@ -1,22 +1,20 @@
-use Rattle.std.proofs.Common.{sym, ap, ◌∙◌, arith, below_more}
-use Rattle.std.proofs.lemmas.Bool.{not-true, not-false}
-use Rattle.account.specs.Range.{in_range, account_at}
-use Rattle.ledger.proofs.Ranges.{off_farm, off_cooperative, off_nobody}
+use Rattle.std.proofs.Common.{false, [], ap, ◌∙◌, arith}
+use Rattle.std.specs.Bool.{then_some}
+use Rattle.line.specs.Line.{Line}
+use Rattle.line.specs.declared.refusal.Holder.TheVariants.{Cooperative}
+use Rattle.ledger.proofs.Ranges.{farm_found, no_farm_found}
 use Rattle.ledger.proofs.closing.whose_off.Goals as goal
 
-pub returns-then-is_off : goal.returns-then-is_off
-returns-then-is_off c = λ l costs e.
-    off_farm l c.args.accounts.now c.args.odd.now costs c.loop-i.i (omega (arith, c.loop-i-test.true)) (sym c.if-is_off.ensures) c.loop-i.invariant
+pub overflow_cast-result : goal.overflow_cast-result
+overflow_cast-result c =
+    let l : Line = record { farms = c.args.farms; parts = 0; uses = λ _ _. false } in
+    omega (arith, farm_found l c.args.accounts.now c.args.odd.now [] c.requires.accounts c.requires.odd c.in-Some.i c.in-Some.ensures)
 
-pub loop-i-preserved : goal.loop-i-preserved
-loop-i-preserved c = below_more _ _ c.loop-i.invariant (sym c.if-is_off.ensures)
+pub returns-in-Some : goal.returns-in-Some
+returns-in-Some c = λ l costs e.
+    (farm_found l c.args.accounts.now c.args.odd.now costs (rw e c.requires.accounts) (rw e c.requires.odd) c.in-Some.i (rw e c.in-Some.ensures)).1
 
-pub returns-then-is_out : goal.returns-then-is_out
-returns-then-is_out c = λ l costs e.
-    off_cooperative l c.args.accounts.now c.args.odd.now costs (λ k h. c.loop-i.invariant k (omega arith))
-    (ap (λ n. in_range (account_at c.args.accounts.now n)) e ∙ not-true _ (sym c.if-is_out.ensures))
-
-pub returns : goal.returns
-returns c = λ l costs e.
-    off_nobody l c.args.accounts.now c.args.odd.now costs (λ k h. c.loop-i.invariant k (omega arith))
-    (ap (λ n. in_range (account_at c.args.accounts.now n)) e ∙ not-false _ (sym c.if-is_out.ensures))
+pub returns-in-None : goal.returns-in-None
+returns-in-None c = λ l costs e.
+    c.then_some.ensures ∙ ap (λ b. then_some b Cooperative) (rw e c.is_out.ensures)
+    ∙ no_farm_found l c.args.accounts.now c.args.odd.now costs (rw e c.requires.accounts) (rw e c.requires.odd) (rw e c.in-None.ensures)

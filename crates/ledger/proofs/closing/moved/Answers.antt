@@ -2,7 +2,7 @@ use Rattle.std.proofs.Common.{ap, ◌∙◌, arith, w64, to_z}
 use Rattle.std.proofs.lemmas.Int.{ints}
 use Rattle.account.specs.Limits.{account_most}
 use Rattle.account.proofs.Ranges.{range_ends}
-use Rattle.ledger.proofs.closing.credited.Goals as goal
+use Rattle.ledger.proofs.closing.moved.Goals as goal
 
 pub overflow_add-cast_signed : goal.overflow_add-cast_signed
 unfolding account_most
