@@ -8,17 +8,17 @@ use ledger::ledger::Ledger;
 use line::names::Farm;
 use line::refusal::Holder;
 use std::alloc::{AllocError, Global};
+use std::fmt::Write;
 
 // Adds the line of booking k, if its answer is told.
-fn push_answer(heap: Global, k: usize, answer: Answer, text: &mut String) -> Result<(), AllocError>
+fn push_answer(k: usize, answer: Answer, text: &mut String) -> Result<(), AllocError>
     ensures { OnOk result (string_bytes text.new ≡ string_bytes text.old ++ answer_text k answer) }
 {
-    let told = match answer {
-        Ok(Done::Booked) => return Ok(()),
-        Ok(Done::Closed(total)) => format!(in heap; "booking {k} closed {total}\n")?,
-        Err(refusal) => format!(in heap; "{refusal}\n")?,
-    };
-    text.push_str(told.as_str())
+    match answer {
+        Ok(Done::Booked) => Ok(()),
+        Ok(Done::Closed(total)) => writeln!(text, "booking {k} closed {total}"),
+        Err(refusal) => writeln!(text, "{refusal}"),
+    }
 }
 
 // The lines of the answers.
@@ -28,33 +28,27 @@ fn tell_answers(heap: Global, answers: &[Answer]) -> Result<String, AllocError>
 {
     let mut text = String::new(heap);
     for (k, answer) in answers.iter().enumerate() {
-        push_answer(heap, k, *answer, &mut text)?;
+        push_answer(k, *answer, &mut text)?;
     }
     Ok(text)
 }
 
 // Adds the line of a holder's account.
-fn push_account(
-    heap: Global,
-    ledger: &Ledger,
-    whose: Holder,
-    text: &mut String,
-) -> Result<(), AllocError>
+fn push_account(ledger: &Ledger, whose: Holder, text: &mut String) -> Result<(), AllocError>
     requires { IsHolder ledger.now.line.now.size.farms whose }
     ensures { OnOk result (string_bytes text.new ≡ string_bytes text.old ++ account_text whose (balance_of (held ledger.now) whose)) }
 {
     let balance = ledger.balance(whose);
-    let told = format!(in heap; "{whose} {balance}\n")?;
-    text.push_str(told.as_str())
+    writeln!(text, "{whose} {balance}")
 }
 
 // Adds the lines of all farms.
 #[tactic(auto, unfolding(crate::specs::Report::accounts_text))]
-fn push_accounts(heap: Global, ledger: &Ledger, text: &mut String) -> Result<(), AllocError>
+fn push_accounts(ledger: &Ledger, text: &mut String) -> Result<(), AllocError>
     ensures { OnOk result (string_bytes text.new ≡ string_bytes text.old ++ accounts_text (held ledger.now) ledger.now.line.now.size.farms) }
 {
     for i in 0..ledger.line.size.farms {
-        push_account(heap, ledger, Holder::Farm(Farm(i)), text)?;
+        push_account(ledger, Holder::Farm(Farm(i)), text)?;
     }
     Ok(())
 }
@@ -64,7 +58,7 @@ pub fn report(heap: Global, ledger: &Ledger, answers: &[Answer]) -> Result<Strin
     ensures { IfOk result (λ t. string_bytes t ≡ report_text answers.now (held ledger.now)) }
 {
     let mut text = tell_answers(heap, answers)?;
-    push_accounts(heap, ledger, &mut text)?;
-    push_account(heap, ledger, Holder::Cooperative, &mut text)?;
+    push_accounts(ledger, &mut text)?;
+    push_account(ledger, Holder::Cooperative, &mut text)?;
     Ok(text)
 }
