@@ -34,8 +34,7 @@ fn write_use(line: &mut Line, farm: Farm, part: Part, uses: bool)
 {
     let width = line.size.row_words();
     let from = part.0 as usize * width;
-    let Line { words, .. } = line;
-    mark(&mut words[from..from + width], farm, uses);
+    mark(&mut line.words[from..from + width], farm, uses);
 }
 
 // Refuses a part that is not one of the line's, then a farm that is not.
