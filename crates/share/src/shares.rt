@@ -38,6 +38,7 @@ impl Year<'_, '_> {
         requires member { farm.0 < self.now.line.now.size.farms }
         ensures { result ≡ scaled (held self.now.line.now) (once (held self.now.line.now)) (λ e. scale / users (held self.now.line.now) e) (at self.now.costs.now) farm.0 }
     {
+        // not a chain that ends in `sum`: tried, and it stayed open that each product fits where a closure makes it
         let mut due = 0;
         for (e, cost) in (0..self.line.size.parts).zip(self.costs) {
             if self.line.uses(farm, Part(e)) {

@@ -5,7 +5,6 @@
 mod tests {
     use line::line::Line;
     use line::names::{Farm, Part};
-    use line::read::read_line;
     use line::refusal::{Lent, Refusal};
     use number::cents::Cents;
     use share::form::PartShare;
@@ -43,16 +42,12 @@ mod tests {
         expected: &[(u64, u64)],
     ) -> Result<(), Fail> {
         let mut words = [0u64; 8];
-        let size = read_line(bytes, &mut words)?;
-        let line = Line {
-            size,
-            words: &mut words,
-        };
+        let line = Line::read(bytes, &mut words)?;
         let mut row = [7u64; 8];
         assert_eq!(rt; shares(&line, costs, &mut row), Ok(Some(scale)));
         assert_eq!(rt; row[7], 7);
-        assert_eq!(rt; expected.len(), size.farms as usize);
-        for (i, (scaled, share)) in (0..size.farms).zip(row.iter().zip(expected)) {
+        assert_eq!(rt; expected.len(), line.size.farms as usize);
+        for (i, (scaled, share)) in (0..line.size.farms).zip(row.iter().zip(expected)) {
             farm_agrees(rt, &line, costs, Farm(i), *scaled, scale, *share)?;
         }
         Ok(())
@@ -123,11 +118,7 @@ mod tests {
     #[test]
     fn part_by_part(rt: HostRuntime) -> Result<(), Fail> {
         let mut words = [0u64; 4];
-        let size = read_line(&[13, 0, 4, 0, 127, 0, 255, 1, 255, 7, 255, 31], &mut words)?;
-        let line = Line {
-            size,
-            words: &mut words,
-        };
+        let line = Line::read(&[13, 0, 4, 0, 127, 0, 255, 1, 255, 7, 255, 31], &mut words)?;
         let costs = [70, 90, 110, 130];
         let mut row = [7u64; 13];
         assert_eq!(rt; shares(&line, &costs, &mut row), Ok(None));
@@ -151,11 +142,7 @@ mod tests {
     #[test]
     fn refusals(rt: HostRuntime) -> Result<(), Fail> {
         let mut words = [0u64; 2];
-        let size = read_line(&[3, 0, 2, 0, 7, 6], &mut words)?;
-        let line = Line {
-            size,
-            words: &mut words,
-        };
+        let line = Line::read(&[3, 0, 2, 0, 7, 6], &mut words)?;
         let mut row = [7u64; 3];
         assert_eq!(rt;
             shares(&line, &[1], &mut row[0..2]),
@@ -177,11 +164,7 @@ mod tests {
     #[test]
     fn farm_refusals(rt: HostRuntime) -> Result<(), Fail> {
         let mut words = [0u64; 2];
-        let size = read_line(&[3, 0, 2, 0, 7, 6], &mut words)?;
-        let line = Line {
-            size,
-            words: &mut words,
-        };
+        let line = Line::read(&[3, 0, 2, 0, 7, 6], &mut words)?;
         let blank = part_share(9, 9, 9);
         let mut rows = [blank; 2];
         let large = [1_000_000_000_000, 1];
