@@ -30,7 +30,7 @@ fn split_part(line: &Line, part: Part, cost: u64, odd: &mut [u64], sums: &mut [u
     let users = counts.len() as u64;
     let each = cost / users;
     let mut level = level_of(counts.as_mut_slice(), (cost % users) as usize);
-    // By the farms' numbers, which also say which bit of the line is looked at: a proof loses what a zip of two rows writes.
+    // By the farms' numbers: after a zip of both rows' `iter_mut` a proof knows how long they are, and nothing of what was written.
     for i in 0..line.size.farms {
         if line.uses(Farm(i), part) {
             let more = level.one_more(odd[i as usize]);
