@@ -78,6 +78,7 @@ fn first_off(accounts: &[u64], odd: &[u64]) -> Option<usize>
 }
 
 // Whose account or count is out of range: the first farm's that is, and after all farms the cooperative's.
+// It takes two rows, since it is asked of what is lent, before there is a ledger, and of what a closing computes.
 pub(crate) fn whose_off(accounts: &[u64], odd: &[u64], farms: u16) -> Option<Holder>
     requires accounts { farms < length accounts.now }
     requires odd { farms ≤ length odd.now }

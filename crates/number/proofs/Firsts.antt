@@ -1,6 +1,6 @@
 -- Laws of `first` and `some`.
 use Rattle.std.proofs.Common.{◌≡◌, ℕ, zero, suc, ◌<◌, ◌≤◌, Bool, true, false, sym, refl, ap, ◌∙◌, inl, inr, arith}
-use Rattle.std.proofs.lemmas.Bool.{ltb-false, both_ways, cases_lt, cases_order, lt-ltb, le-ltb}
+use Rattle.std.proofs.lemmas.Bool.{ltb-false, both_ways, cases_lt, lt-ltb, le-ltb}
 use Rattle.std.proofs.lemmas.Bool.Decides.{nat_tests}
 use Rattle.number.specs.Sum.{one, count}
 use Rattle.number.specs.First.{first, some}
@@ -24,15 +24,6 @@ pub first_passes : (n : ℕ) (p : ℕ → Bool) → first n p < n → p (first n
 unfolding first
 first_passes zero p h = absurd (omega arith)
 first_passes (suc n) p h = let found = first_passes n p in grind (arith, nat_tests)
-
--- what passes where all before it fail is the first
-pub first_is : (n : ℕ) (p : ℕ → Bool) (k : ℕ) → k < n → p k ≡ true → ((j : ℕ) → j < k → p j ≡ false) → first n p ≡ k
-first_is n p k l e before =
-    elim (cases_order (first n p) k) [
-      | inl same ↦ same
-      | inr (inl less) ↦ absurd (both_ways (p (first n p)) (before (first n p) less) (first_passes n p (omega arith)))
-      | inr (inr more) ↦ absurd (both_ways (p k) (first_before n p k more) e)
-    ]
 
 -- where all fail it is n
 pub first_none : (n : ℕ) (p : ℕ → Bool) → ((k : ℕ) → k < n → p k ≡ false) → first n p ≡ n

@@ -33,6 +33,7 @@ impl From<AllocError> for Untold {
     }
 }
 
+// By hand, since no contract knows what a derive writes.
 impl fmt::Display for Untold {
     ghost output = { λ u. Some (untold_text u) };
 
