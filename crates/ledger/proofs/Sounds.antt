@@ -20,7 +20,7 @@ ledger_sound g =
     let n = g.line.now.size.farms in
     let m = g.line.now.size.parts in
     record {
-      used = g.line.now.used;
+      used = g.line.now.sound.used;
       accounts = λ i h. ap in_range (inside_below n (pos 0) (account_at g.accounts.now) i h) ∙ g.accounts_fit i (omega arith);
       cooperative = g.accounts_fit n (omega arith);
       costs = λ e h. subst (λ x. x < costs_end) (sym (inside_below m 0 (at g.costs.now) e h)) (g.costs_fit e h);

@@ -17,7 +17,7 @@ pub push-requires : goal.push-requires
 unfolding most_farms
 push-requires c =
     let turn = along_turn c.loop-i.invariant.1 c.next.new.self c.in-Some.count c.in-Some.ensures.steps in
-    (lit< tt, omega (arith, listed_few _ _ c.loop-i.invariant.2, turn.here, turn.below, c.args.line.now.farms.1))
+    (lit< tt, omega (arith, listed_few _ _ c.loop-i.invariant.2, turn.here, turn.below, c.args.line.now.sound.farms.1))
 
 pub loop-i-preserved-then-uses : goal.loop-i-preserved-then-uses
 loop-i-preserved-then-uses c =

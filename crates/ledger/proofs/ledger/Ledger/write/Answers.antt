@@ -22,8 +22,8 @@ returns-clause-after c =
     let g = c.args.self.now in
     let b = c.args.books.now in
     let n = g.line.now.size.farms in
-    let accounts_many : n + 1 ≤ length b.accounts = omega (arith, g.line.now.farms.1) in
-    let odd_many : n ≤ length b.odd = omega (arith, g.line.now.farms.1) in
+    let accounts_many : n + 1 ≤ length b.accounts = omega (arith, g.line.now.sound.farms.1) in
+    let odd_many : n ≤ length b.odd = omega (arith, g.line.now.sound.farms.1) in
     cleared_rows (line_held g.line.now) b.accounts _ b.odd _ g.costs.now _
     (λ i h. front (n + 1) c.copy_from_slice.new.self b.accounts (drop (n + 1) g.accounts.now) c.copy_from_slice.ensures.after accounts_many i (omega arith))
     (front n c.copy_from_slice-2.new.self b.odd (drop n g.odd.now) c.copy_from_slice-2.ensures.after odd_many)
