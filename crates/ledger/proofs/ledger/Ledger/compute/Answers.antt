@@ -28,10 +28,10 @@ split_parts-requires c =
     let g = c.args.self.now in
     record {
       asked = record {
-        enough = g.costs_room;
-        small = g.costs_fit;
+        enough = g.fits.costs_room;
+        small = g.fits.costs_fit;
         counts = omega (arith, g.line.now.sound.farms.1, c.front-2.type_inv);
-        low = λ i h. omega (arith, c.front-2.ensures i h, g.odd_fit i h);
+        low = λ i h. omega (arith, c.front-2.ensures i h, g.fits.odd_fit i h);
       };
       room = g.line.now.sound.farms.1;
       clear = λ i h. get_or-replicate most_farms i 0 0 (omega (arith, g.line.now.sound.farms.1));
@@ -48,8 +48,8 @@ settle-total-requires c =
     let charges = all n c.split_parts.new.sums room ∙ sum_same n _ _ c.split_parts.ensures.cents ∙ closing_adds_up_lem l (once l) (once_fits_lem l g.line.now.sound.used) (at g.costs.now) _ in
     record {
       room = omega (arith, many n c.split_parts.new.sums room, g.line.now.sound.farms.1, c.front.type_inv);
-      fit = λ i h. let k : i ≤ n = omega (arith, many n c.split_parts.new.sums room) in ap (λ x. in_range (to_z w64 x)) (c.front.ensures i (omega arith)) ∙ g.accounts_fit i k;
-      small = omega (arith, charges, sum_most m costs_end (at g.costs.now) (λ e h. omega (arith, g.costs_fit e h)), g.line.now.sound.parts.1);
+      fit = λ i h. let k : i ≤ n = omega (arith, many n c.split_parts.new.sums room) in ap (λ x. in_range (to_z w64 x)) (c.front.ensures i (omega arith)) ∙ g.fits.accounts_fit i k;
+      small = omega (arith, charges, sum_most m costs_end (at g.costs.now) (λ e h. omega (arith, g.fits.costs_fit e h)), g.line.now.sound.parts.1);
     }
 
 pub returns : goal.returns
