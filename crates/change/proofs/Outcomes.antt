@@ -40,7 +40,7 @@ refused_join i e line x h = record {
   refused = h;
   holds = refl;
   kept = record { size = refl; rest = refl; lender = refl };
-  others = joining_raises_none_lem i (held line) (held line) (stays i (held line)) line.used;
+  others = joining_raises_none_lem i (held line) (held line) (stays i (held line)) line.sound.used;
 }
 
 pub refused_leave : (i e : ℕ) (line : Over) (x : Refusal) → Some x ≡ leave_refused (held line) i e → Parted i e line line (Err x)
@@ -48,7 +48,7 @@ refused_leave i e line x h = record {
   refused = h;
   holds = refl;
   kept = record { size = refl; rest = refl; lender = refl };
-  others = leaving_lowers_none_lem i (held line) (held line) (stays i (held line)) line.used;
+  others = leaving_lowers_none_lem i (held line) (held line) (stays i (held line)) line.sound.used;
 }
 
 -- the line that the words hold

@@ -9,8 +9,8 @@ use Rattle.share.specs.Answer.{costs_refused}
 use Rattle.share.proofs.Refusing.{passed, costs_small}
 use Rattle.posting.specs.Posting.{out_of_range}
 use Rattle.ledger.specs.Held.{state_of}
-use Rattle.ledger.specs.Open.{holder_refusal, blank, lent_refused, LentFits}
-use Rattle.ledger.specs.Room.{sheet_length}
+use Rattle.ledger.specs.Open.{holder_refusal, blank, lent_refused}
+use Rattle.ledger.specs.Room.{sheet_length, LentFits}
 use Rattle.ledger.proofs.Ranges.{accounts_fit, counts_fit}
 
 -- where all is long enough, the costs are asked, then the accounts and counts

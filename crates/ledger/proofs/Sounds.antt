@@ -20,11 +20,11 @@ ledger_sound g =
     let n = g.line.now.size.farms in
     let m = g.line.now.size.parts in
     record {
-      used = g.line.now.used;
-      accounts = λ i h. ap in_range (inside_below n (pos 0) (account_at g.accounts.now) i h) ∙ g.accounts_fit i (omega arith);
-      cooperative = g.accounts_fit n (omega arith);
-      costs = λ e h. subst (λ x. x < costs_end) (sym (inside_below m 0 (at g.costs.now) e h)) (g.costs_fit e h);
-      odd = λ i h. subst (λ x. x < counts_end) (sym (inside_below n 0 (at g.odd.now) i h)) (g.odd_fit i h);
+      used = g.line.now.sound.used;
+      accounts = λ i h. ap in_range (inside_below n (pos 0) (account_at g.accounts.now) i h) ∙ g.fits.accounts_fit i (omega arith);
+      cooperative = g.fits.accounts_fit n (omega arith);
+      costs = λ e h. subst (λ x. x < costs_end) (sym (inside_below m 0 (at g.costs.now) e h)) (g.fits.costs_fit e h);
+      odd = λ i h. subst (λ x. x < counts_end) (sym (inside_below n 0 (at g.odd.now) i h)) (g.fits.odd_fit i h);
     }
 
 -- what is known after the last booking of a row

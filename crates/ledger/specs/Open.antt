@@ -1,5 +1,5 @@
 -- What opening a ledger answers, and what is known of one that is open.
-use Rattle.std.specs.Prelude.{◌≡◌, ℕ, ◌+◌, ◌<◌, ◌≤◌, false, cond, ◌||◌, List, length, is_ok, Some, None, Ok, Err, Option, Result, nat_lt}
+use Rattle.std.specs.Prelude.{◌≡◌, ℕ, ◌+◌, false, cond, ◌||◌, List, length, is_ok, Some, None, Ok, Err, Option, Result, nat_lt}
 use Rattle.std.specs.Borrow.{MutBor}
 use Rattle.std.specs.Option.{option_or, option_map}
 use Rattle.line.specs.declared.refusal.Holder.{Holder}
@@ -14,7 +14,7 @@ use Rattle.share.specs.Answer.{large_refused}
 use Rattle.posting.specs.Posting.{out_of_range}
 use Rattle.ledger.specs.Held.{state_of, place_of}
 use Rattle.ledger.specs.declared.ledger.Ledger.{Ledger}
-use Rattle.ledger.specs.Room.{sheet_length, AccountsFit, CountsFit, CostsFit}
+use Rattle.ledger.specs.Room.{sheet_length, LentFits}
 
 -- an account or a count that is lent out of range is refused where the account stands
 abbrev pub holder_refusal : ℕ → Holder → Refusal
@@ -45,16 +45,6 @@ opening b lent accounts odd costs sheet = and_then (reading b lent) (λ s. unles
 -- the words after opening: the line that the bytes mean, or as they were
 unfoldable pub opened_words : List ℕ → List ℕ → (accounts odd costs : List ℕ) → ℕ → List ℕ
 opened_words b words accounts odd costs sheet = cond (is_ok (opening b (length words) accounts odd costs sheet)) (filled b words) words
-
--- what is lent for a line of this size is long enough and in range
-pub record LentFits (s : Size) (accounts odd costs : List ℕ) (sheet : ℕ) : Type 0 where
-  pub accounts_room : s.farms < length accounts
-  pub odd_room : s.farms ≤ length odd
-  pub costs_room : s.parts ≤ length costs
-  pub sheet_room : sheet_length s.farms s.parts ≤ sheet
-  pub accounts_fit : AccountsFit s.farms accounts
-  pub odd_fit : CountsFit s.farms odd
-  pub costs_fit : CostsFit s.parts costs
 
 -- what is known of a ledger that can be made: the words hold the line that the bytes mean, and all else fits it
 pub record Opened (b words accounts odd costs : List ℕ) (sheet : ℕ) (s : Size) : Type 0 where

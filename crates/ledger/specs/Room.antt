@@ -1,5 +1,6 @@
 -- What memory a ledger takes, and what may stand in it.
-use Rattle.std.specs.Prelude.{◌≡◌, ℕ, ◌+◌, ◌*◌, ◌<◌, ◌≤◌, true, List}
+use Rattle.std.specs.Prelude.{◌≡◌, ℕ, ◌+◌, ◌*◌, ◌<◌, ◌≤◌, true, List, length}
+use Rattle.line.specs.declared.size.Size.{Size}
 use Rattle.line.specs.Limits.{costs_end}
 use Rattle.line.specs.Rows.{across}
 use Rattle.account.specs.Range.{in_range, account_at}
@@ -21,3 +22,13 @@ CountsFit n odd = (i : ℕ) → i < n → at odd i < counts_end
 -- the costs of m parts are
 abbrev pub CostsFit : ℕ → List ℕ → Type 0
 CostsFit m costs = (e : ℕ) → e < m → at costs e < costs_end
+
+-- what is lent for a line of this size is long enough and in range
+pub record LentFits (s : Size) (accounts odd costs : List ℕ) (sheet : ℕ) : Type 0 where
+  pub accounts_room : s.farms < length accounts
+  pub odd_room : s.farms ≤ length odd
+  pub costs_room : s.parts ≤ length costs
+  pub sheet_room : sheet_length s.farms s.parts ≤ sheet
+  pub accounts_fit : AccountsFit s.farms accounts
+  pub odd_fit : CountsFit s.farms odd
+  pub costs_fit : CostsFit s.parts costs

@@ -1,6 +1,6 @@
 // A ledger over lent memory.
-ghost use Rattle.std.specs.Prelude.{◌<◌, ◌≤◌, length};
-ghost use Rattle.ledger.specs.Room.{sheet_length, AccountsFit, CountsFit, CostsFit};
+ghost use Rattle.std.specs.Prelude.{length};
+ghost use Rattle.ledger.specs.Room.{LentFits};
 
 use line::line::Line;
 
@@ -16,11 +16,5 @@ pub struct Ledger<'l, 'w, 'a> {
     pub costs: &'a mut [u64],
     // Room for the sheet of a closing.
     pub sheet: &'a mut [u8],
-    ghost accounts_room: { line.now.size.farms < length accounts.now },
-    ghost odd_room: { line.now.size.farms ≤ length odd.now },
-    ghost costs_room: { line.now.size.parts ≤ length costs.now },
-    ghost sheet_room: { sheet_length line.now.size.farms line.now.size.parts ≤ length sheet.now },
-    ghost accounts_fit: { AccountsFit line.now.size.farms accounts.now },
-    ghost odd_fit: { CountsFit line.now.size.farms odd.now },
-    ghost costs_fit: { CostsFit line.now.size.parts costs.now },
+    ghost fits: { LentFits line.now.size accounts.now odd.now costs.now (length sheet.now) },
 }

@@ -1,6 +1,5 @@
 // A line over lent words.
-ghost use Rattle.line.specs.Limits.{most_farms, most_parts, Within};
-ghost use Rattle.line.specs.Sound.{Room, Clear, Used};
+ghost use Rattle.line.specs.Sound.{Sound};
 
 use crate::size::Size;
 
@@ -10,9 +9,5 @@ use crate::size::Size;
 pub struct Line<'a> {
     pub size: Size,
     pub words: &'a mut [u64],
-    ghost farms: { Within most_farms size.farms },
-    ghost parts: { Within most_parts size.parts },
-    ghost room: { Room size.farms size.parts words.now },
-    ghost clear: { Clear size.farms size.parts words.now },
-    ghost used: { Used size.farms size.parts words.now },
+    ghost sound: { Sound size.farms size.parts words.now },
 }

@@ -27,23 +27,23 @@ returns-in_err-check_costs-clause-refused c =
 
 pub slice_bounds-counts-end : goal.slice_bounds-counts-end
 unfolding most_farms
-slice_bounds-counts-end c = c.args.line.now.farms.1
+slice_bounds-counts-end c = c.args.line.now.sound.farms.1
 
 pub slice_bounds-cents-end : goal.slice_bounds-cents-end
 unfolding most_farms
-slice_bounds-cents-end c = c.args.line.now.farms.1
+slice_bounds-cents-end c = c.args.line.now.sound.farms.1
 
 pub slice_bounds-counts-end-2 : goal.slice_bounds-counts-end-2
 unfolding most_farms
-slice_bounds-counts-end-2 c = sym (length-take-le c.args.line.now.size.farms _ c.args.line.now.farms.1)
+slice_bounds-counts-end-2 c = sym (length-take-le c.args.line.now.size.farms _ c.args.line.now.sound.farms.1)
 
 pub slice_bounds-cents-end-2 : goal.slice_bounds-cents-end-2
 unfolding most_farms
-slice_bounds-cents-end-2 c = sym (length-take-le c.args.line.now.size.farms _ c.args.line.now.farms.1)
+slice_bounds-cents-end-2 c = sym (length-take-le c.args.line.now.size.farms _ c.args.line.now.sound.farms.1)
 
 pub copy_from_slice-requires : goal.copy_from_slice-requires
 unfolding most_farms
-copy_from_slice-requires c = length-take-le c.args.line.now.size.farms _ c.args.line.now.farms.1 ∙ sym (length-take-le c.args.line.now.size.farms c.args.odd.now c.if-odd-farms.false)
+copy_from_slice-requires c = length-take-le c.args.line.now.size.farms _ c.args.line.now.sound.farms.1 ∙ sym (length-take-le c.args.line.now.size.farms c.args.odd.now c.if-odd-farms.false)
 
 pub split_parts-requires-clause-asked : goal.split_parts-requires-clause-asked
 split_parts-requires-clause-asked c =
@@ -61,7 +61,7 @@ split_parts-requires-clause-asked c =
 
 pub split_parts-requires-clause-clear : goal.split_parts-requires-clause-clear
 unfolding most_farms
-split_parts-requires-clause-clear c i h = get_or-take c.args.line.now.size.farms _ i 0 h ∙ get_or-replicate most_farms i 0 0 (omega (arith, c.args.line.now.farms.1))
+split_parts-requires-clause-clear c i h = get_or-take c.args.line.now.size.farms _ i 0 h ∙ get_or-replicate most_farms i 0 0 (omega (arith, c.args.line.now.sound.farms.1))
 
 pub returns-in-Some-clause-refused : goal.returns-in-Some-clause-refused
 returns-in-Some-clause-refused c =
@@ -105,8 +105,8 @@ returns-clause-answer c =
     λ i h. new-sums.front i h ∙ c.split_parts.ensures.cents i h ∙ charged_capped l costs odd counts front none i h in
     record {
       cents = paid;
-      all = sum_same n _ _ paid ∙ closing_adds_up_lem l (once l) (once_fits_lem l line.used) (at costs) (at odd);
-      small = λ i h. omega (arith, paid i h, due_small l costs odd i line.size.parts fine.1 h (omega arith), line.parts.1);
+      all = sum_same n _ _ paid ∙ closing_adds_up_lem l (once l) (once_fits_lem l line.sound.used) (at costs) (at odd);
+      small = λ i h. omega (arith, paid i h, due_small l costs odd i line.size.parts fine.1 h (omega arith), line.sound.parts.1);
       counts = λ i h. new-odd.front i h ∙ c.split_parts.ensures.counts i h ∙ odds_capped l costs odd counts front none i h;
       cents_rest = new-sums.rest;
       counts_rest = new-odd.rest;

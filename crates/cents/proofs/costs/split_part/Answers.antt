@@ -13,16 +13,16 @@ use Rattle.cents.proofs.costs.split_part.Goals.{then-uses, else-uses}
 
 pub nonzero_div-each : goal.nonzero_div-each
 unfolding users
-nonzero_div-each c = omega (arith, c.args.line.now.used c.args.part.0 c.requires.part, c.list_counts-counts.ensures.all)
+nonzero_div-each c = omega (arith, c.args.line.now.sound.used c.args.part.0 c.requires.part, c.list_counts-counts.ensures.all)
 
 pub nonzero_rem-cost : goal.nonzero_rem-cost
 unfolding users
-nonzero_rem-cost c = omega (arith, c.args.line.now.used c.args.part.0 c.requires.part, c.list_counts-counts.ensures.all)
+nonzero_rem-cost c = omega (arith, c.args.line.now.sound.used c.args.part.0 c.requires.part, c.list_counts-counts.ensures.all)
 
 pub level_of-level-requires : goal.level_of-level-requires
 unfolding users
 level_of-level-requires c =
-    let some : 0 < c.len-users.result = omega (arith, c.args.line.now.used c.args.part.0 c.requires.part, c.list_counts-counts.ensures.all) in
+    let some : 0 < c.len-users.result = omega (arith, c.args.line.now.sound.used c.args.part.0 c.requires.part, c.list_counts-counts.ensures.all) in
     omega (arith, mod_below c.args.cost c.len-users.result some, ap length c.as_mut_slice.ensures.value)
 
 pub loop-i-init : goal.loop-i-init

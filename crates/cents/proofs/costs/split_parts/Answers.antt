@@ -18,7 +18,7 @@ split_part-requires c =
     let costs = c.args.costs.now in
     let turn = along_turn c.loop-e.invariant.1 c.next.new.self c.in-Some.cost c.in-Some.ensures.steps in
     let up : Upto (held line) costs c.args.odd.now c.args.sums.now c.in-Some.e c.loop-e.odd c.loop-e.sums = rw turn.here c.loop-e.invariant.2 in
-    let room = room (held line) costs c.args.odd.now c.requires.asked line.parts.1 up turn.below in
+    let room = room (held line) costs c.args.odd.now c.requires.asked line.sound.parts.1 up turn.below in
     record {
       part = turn.below;
       counts = omega (arith, c.requires.asked.counts);

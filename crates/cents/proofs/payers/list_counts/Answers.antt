@@ -13,7 +13,7 @@ loop-i-init c = listed_none (λ i. (held c.args.line.now).uses i c.args.part.0) 
 
 pub push-requires : goal.push-requires
 unfolding most_farms
-push-requires c = (lit< tt, omega (arith, length-take-le c.args.line.now.size.farms c.args.odd.now c.requires, listed_few _ _ c.loop-i.invariant, c.args.line.now.farms.1))
+push-requires c = (lit< tt, omega (arith, length-take-le c.args.line.now.size.farms c.args.odd.now c.requires, listed_few _ _ c.loop-i.invariant, c.args.line.now.sound.farms.1))
 
 pub loop-i-preserved : goal.loop-i-preserved
 loop-i-preserved c =

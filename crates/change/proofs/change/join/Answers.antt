@@ -20,7 +20,7 @@ write_use-requires c =
     let i = c.args.farm.0 in
     let e = c.args.part.0 in
     let both = known_both l i e c.in_ok-check_names.ensures in
-    record { farm = both.1; part = both.0; used = subst AllUsed (sym (joined_is l i e)) (still_used i l (joined l i e) (joined_grows_lem l i e) line.used) }
+    record { farm = both.1; part = both.0; used = subst AllUsed (sym (joined_is l i e)) (still_used i l (joined l i e) (joined_grows_lem l i e) line.sound.used) }
 
 pub returns : goal.returns
 returns c =
@@ -33,5 +33,5 @@ returns c =
       refused = c.in_ok-check_names.ensures;
       holds = is;
       kept = c.write_use.ensures.kept;
-      others = subst (NoneRaised i l) (sym is) (joining_raises_none_lem i l (joined l i e) (joined_grows_lem l i e) line.used);
+      others = subst (NoneRaised i l) (sym is) (joining_raises_none_lem i l (joined l i e) (joined_grows_lem l i e) line.sound.used);
     }

@@ -23,7 +23,7 @@ write_use-requires c =
     let i = c.args.farm.0 in
     let e = c.args.part.0 in
     let both = known_both l i e c.in_ok-check_names.ensures in
-    record { farm = both.1; part = both.0; used = subst AllUsed (sym (parted_is l i e)) (parted_used l i e both.1 c.if-is_only_user.ensures line.used) }
+    record { farm = both.1; part = both.0; used = subst AllUsed (sym (parted_is l i e)) (parted_used l i e both.1 c.if-is_only_user.ensures line.sound.used) }
 
 pub returns : goal.returns
 returns c =
@@ -37,5 +37,5 @@ returns c =
       refused = leave_answer l i e false c.if-is_only_user.ensures c.in_ok-check_names.ensures;
       holds = is;
       kept = c.write_use.ensures.kept;
-      others = subst (NoneLowered i l) (sym is) (leaving_lowers_none_lem i l (parted l i e) (parted_grows_lem l i e) (parted_used l i e both.1 c.if-is_only_user.ensures line.used));
+      others = subst (NoneLowered i l) (sym is) (leaving_lowers_none_lem i l (parted l i e) (parted_grows_lem l i e) (parted_used l i e both.1 c.if-is_only_user.ensures line.sound.used));
     }

@@ -44,7 +44,7 @@ returns-in_err-ledger c =
       sheet = omega (arith, c.as_mut_slice-5.ensures.len, c.in_ok-sheet.ensures.len, c.sheet_bytes.ensures);
     } in
     let refused : Some c.in_err-ledger.field-0.0 ≡ lent_refused c.in_ok-line.line.size c.as_mut_slice-2.result.now c.as_mut_slice-3.result.now c.as_mut_slice-4.result.now (length c.as_mut_slice-5.result.now) = c.in_err-ledger.ensures.refused in
-    let no = refused ∙ blank_lent _ _ _ _ blank c.in_ok-line.line.size c.in_ok-line.line.farms.1 c.in_ok-line.line.parts.1 in
+    let no = refused ∙ blank_lent _ _ _ _ blank c.in_ok-line.line.size c.in_ok-line.line.sound.farms.1 c.in_ok-line.line.sound.parts.1 in
     absurd (cc)
 
 pub returns-in_err-book_row : goal.returns-in_err-book_row

@@ -34,12 +34,12 @@ returns-clause-answer c =
     let costs = at year.costs.now in
     let i = c.args.farm.0 in
     let fine = known_fine l year.costs.now i (sym c.in_ok-check_farm.ensures) in
-    let share = total_listed l costs i l.parts then same_sym (once_rule_lem l year.line.now.used costs i) in
+    let share = total_listed l costs i l.parts then same_sym (once_rule_lem l year.line.now.sound.used costs i) in
     subst₂ (λ line costs. Rows (held line) costs i c.args.rows.now c.list_parts.new.rows c.list_parts.result) c.in_ok-year.ensures.same.0 c.in_ok-year.ensures.same.1
     (record {
       rows = c.list_parts.ensures.front;
       count = c.list_parts.ensures.count;
       share = share;
-      fair = λ r f. share then fair_share l year.line.now.used costs i fine.0 r f;
+      fair = λ r f. share then fair_share l year.line.now.sound.used costs i fine.0 r f;
       rest = c.list_parts.ensures.rest;
     })

@@ -45,6 +45,6 @@ returns-clause-answer c =
     let asked : Asked l year.costs.now s = record { enough = year.enough; small = fine.1; least = c.in-Some.ensures.0; below = c.in-Some.ensures.1 } in
     subst₂ (λ line costs. ShareAnswer (held line) costs c.args.farm.0 (Ok c.new-2.result)) c.in_ok-year.ensures.same.0 c.in_ok-year.ensures.same.1
     (
-    one_share l year.costs.now s asked year.line.now.used year.line.now.parts.1 c.args.farm.0 c.due_of.result fine.0 c.due_of.ensures c.new-2.result
-    (c.new-2.ensures.fits (least_positive l (at year.costs.now) s year.line.now.used c.in-Some.ensures.0))
+    one_share l year.costs.now s asked year.line.now.sound.used year.line.now.sound.parts.1 c.args.farm.0 c.due_of.result fine.0 c.due_of.ensures c.new-2.result
+    (c.new-2.ensures.fits (least_positive l (at year.costs.now) s year.line.now.sound.used c.in-Some.ensures.0))
     )

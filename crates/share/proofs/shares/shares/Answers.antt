@@ -47,4 +47,4 @@ returns-clause-answer c =
     let asked : Asked (held year.line.now) year.costs.now s = record { enough = year.enough; small = small; least = c.in-Some.ensures.0; below = c.in-Some.ensures.1 } in
     let long = c.add_up.auto.row ∙ length-take-le _ _ c.if-row-line.false ∙ ap (λ line. line.size.farms) (sym same.0) in
     subst₂ (λ line costs. ScaleAnswer (held line) (at costs) (Some s) × OverScale (held line) costs c.args.row.now (c.add_up.new.row ++ drop line.size.farms c.args.row.now) s) same.0 same.1
-    (over_scale (held year.line.now) year.costs.now s asked year.line.now.used year.line.now.parts.1 c.add_up.new.row c.args.row.now long c.add_up.ensures)
+    (over_scale (held year.line.now) year.costs.now s asked year.line.now.sound.used year.line.now.sound.parts.1 c.add_up.new.row c.args.row.now long c.add_up.ensures)

@@ -28,13 +28,13 @@ split_parts-requires c =
     let g = c.args.self.now in
     record {
       asked = record {
-        enough = g.costs_room;
-        small = g.costs_fit;
-        counts = omega (arith, g.line.now.farms.1, c.front-2.type_inv);
-        low = λ i h. omega (arith, c.front-2.ensures i h, g.odd_fit i h);
+        enough = g.fits.costs_room;
+        small = g.fits.costs_fit;
+        counts = omega (arith, g.line.now.sound.farms.1, c.front-2.type_inv);
+        low = λ i h. omega (arith, c.front-2.ensures i h, g.fits.odd_fit i h);
       };
-      room = g.line.now.farms.1;
-      clear = λ i h. get_or-replicate most_farms i 0 0 (omega (arith, g.line.now.farms.1));
+      room = g.line.now.sound.farms.1;
+      clear = λ i h. get_or-replicate most_farms i 0 0 (omega (arith, g.line.now.sound.farms.1));
     }
 
 pub settle-total-requires : goal.settle-total-requires
@@ -44,12 +44,12 @@ settle-total-requires c =
     let l = line_held g.line.now in
     let n = g.line.now.size.farms in
     let m = g.line.now.size.parts in
-    let room : n ≤ length c.split_parts.new.sums = omega (arith, g.line.now.farms.1, c.split_parts.auto.sums) in
-    let charges = all n c.split_parts.new.sums room ∙ sum_same n _ _ c.split_parts.ensures.cents ∙ closing_adds_up_lem l (once l) (once_fits_lem l g.line.now.used) (at g.costs.now) _ in
+    let room : n ≤ length c.split_parts.new.sums = omega (arith, g.line.now.sound.farms.1, c.split_parts.auto.sums) in
+    let charges = all n c.split_parts.new.sums room ∙ sum_same n _ _ c.split_parts.ensures.cents ∙ closing_adds_up_lem l (once l) (once_fits_lem l g.line.now.sound.used) (at g.costs.now) _ in
     record {
-      room = omega (arith, many n c.split_parts.new.sums room, g.line.now.farms.1, c.front.type_inv);
-      fit = λ i h. let k : i ≤ n = omega (arith, many n c.split_parts.new.sums room) in ap (λ x. in_range (to_z w64 x)) (c.front.ensures i (omega arith)) ∙ g.accounts_fit i k;
-      small = omega (arith, charges, sum_most m costs_end (at g.costs.now) (λ e h. omega (arith, g.costs_fit e h)), g.line.now.parts.1);
+      room = omega (arith, many n c.split_parts.new.sums room, g.line.now.sound.farms.1, c.front.type_inv);
+      fit = λ i h. let k : i ≤ n = omega (arith, many n c.split_parts.new.sums room) in ap (λ x. in_range (to_z w64 x)) (c.front.ensures i (omega arith)) ∙ g.fits.accounts_fit i k;
+      small = omega (arith, charges, sum_most m costs_end (at g.costs.now) (λ e h. omega (arith, g.fits.costs_fit e h)), g.line.now.sound.parts.1);
     }
 
 pub returns : goal.returns
@@ -62,7 +62,7 @@ returns c =
     let costs = at g.costs.now in
     let odd = at g.odd.now in
     let sums = c.split_parts.new.sums in
-    let room : n ≤ length sums = omega (arith, g.line.now.farms.1, c.split_parts.auto.sums) in
+    let room : n ≤ length sums = omega (arith, g.line.now.sound.farms.1, c.split_parts.auto.sums) in
     let outside : (i e : ℕ) → n ≤ i → l.uses i e ≡ false = λ i e h. and_left (ltb i n) _ (le-ltb i n h) in
     let paid : (i : ℕ) → i < n → at sums i ≡ charged l (once l) costs odd i m =
     λ i h. c.split_parts.ensures.cents i h ∙ charged_same l (once l) costs costs _ odd m (λ _ _. refl) c.front-2.ensures m (omega arith) i h in

@@ -33,7 +33,7 @@ overflow_mul-each c =
 
 pub overflow_cast-i : goal.overflow_cast-i
 unfolding most_farms
-overflow_cast-i c = Fits-of_lt (omega (arith, c.args.self.now.line.now.farms.1, c.requires.room))
+overflow_cast-i c = Fits-of_lt (omega (arith, c.args.self.now.line.now.sound.farms.1, c.requires.room))
 
 pub overflow_add-due : goal.overflow_add-due
 overflow_add-due c =
@@ -44,7 +44,7 @@ overflow_add-due c =
     let turn = along_turn c.loop-e.invariant.1 c.next.new.self c.in-Some.cost c.in-Some.ensures.steps in
     let member : i < l.farms = omega (arith, c.requires.room) in
     let here = c.loop-i.invariant.after i (omega arith) member in
-    let low : at c.loop-i.row i < 2 ^ 63 = omega (arith, here, owed_small l c.args.scale year.costs.now c.requires.asked year.line.now.used year.line.now.parts.1 i e member (omega (arith, turn.below))) in
+    let low : at c.loop-i.row i < 2 ^ 63 = omega (arith, here, owed_small l c.args.scale year.costs.now c.requires.asked year.line.now.sound.used year.line.now.sound.parts.1 i e member (omega (arith, turn.below))) in
     Fits-of_lt (both_small (at c.loop-i.row i) c.args.scale _ c.in-Some.cost.now low c.requires.asked.below (omega (arith, turn.item, c.requires.asked.small e turn.below)))
 
 pub loop-i-preserved : goal.loop-i-preserved

@@ -26,7 +26,7 @@ overflow_add-due c =
     omega (
       arith,
       owed_used l c.args.scale year.costs.now c.args.farm.0 e _ _ _ (sym c.if-uses.ensures) c.users.ensures turn.item (c.loop-e.invariant.2 ∙ ap (owed l c.args.scale year.costs.now c.args.farm.0) (sym turn.here)),
-      owed_small l c.args.scale year.costs.now c.requires.asked year.line.now.used year.line.now.parts.1 c.args.farm.0 (e + 1) c.requires.member (omega (arith, turn.below)),
+      owed_small l c.args.scale year.costs.now c.requires.asked year.line.now.sound.used year.line.now.sound.parts.1 c.args.farm.0 (e + 1) c.requires.member (omega (arith, turn.below)),
     )
 
 pub loop-e-preserved-then-uses : goal.loop-e-preserved-then-uses

@@ -25,7 +25,7 @@ returns-in_err-scale c =
     let s = c.loop-e.scale in
     let turn = along_turn c.loop-e.invariant.1 c.next.new.self c.in-Some.cost c.in-Some.ensures.steps in
     simp c.from_residual.ensures (
-    least_large l (at costs) e s scale_end c.args.self.now.line.now.used turn.below (omega (arith, turn.item, c.if-cost-gt0.true))
+    least_large l (at costs) e s scale_end c.args.self.now.line.now.sound.used turn.below (omega (arith, turn.item, c.if-cost-gt0.true))
     (subst (λ k. LeastScale l (at costs) k s) (sym turn.here) c.loop-e.invariant.2)
     (λ m h. c.in_err-scale.ensures m (subst (λ u. Least s u m) (sym c.users.ensures) h))
     )
