@@ -5,6 +5,7 @@ mod accounts;
 mod trouble;
 
 use accounts::accounts;
+use std::io::Write;
 use std::process::ExitCode;
 use std::{env, fs};
 use trouble::Trouble;
@@ -36,7 +37,10 @@ fn run(rt: &HostRuntime) -> Result<ExitCode, Trouble> {
         }
         Ok(_) if !bookings.is_empty() => Err(Trouble::Bookings),
         told => {
-            rt.print(told?).map_err(Trouble::Output)?;
+            // in one piece
+            let text = told?;
+            let written = rt.stdout().write_all(text.as_bytes());
+            written.map_err(Trouble::Output)?;
             Ok(ExitCode::SUCCESS)
         }
     }

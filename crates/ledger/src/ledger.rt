@@ -4,7 +4,7 @@ ghost use Rattle.ledger.specs.Room.{LentFits};
 
 use line::line::Line;
 
-// The accounts of a cooperative. Each row is lent by itself, since a library here has no heap; words and bytes past those that are needed are the lender's.
+// The accounts of a cooperative. Each row is lent by itself, as all memory that the libraries below `report` work in; words and bytes past those that are needed are the lender's.
 #[derive(Drop)]
 pub struct Ledger<'l, 'w, 'a> {
     pub line: &'l mut Line<'w>,

@@ -336,7 +336,7 @@ mod tests {
         )
     }
 
-    // Fewer answers than the row needs are lent: nothing is booked.
+    // Fewer answers than the row needs are lent, to a ledger made over what `open` has looked at: nothing is booked.
     #[test]
     fn too_few_answers(rt: HostRuntime) -> Result<(), Fail> {
         let mut words = [0u64; 2];
@@ -344,9 +344,19 @@ mod tests {
         let mut odd = [0u64; 3];
         let mut costs = [4u64; 2];
         let mut sheet = [0u8; SHEET];
-        let mut line = Line::read(&LINE, &mut words)?;
+        let size = open(&LINE, &mut words, &accounts, &odd, &costs, &sheet)?;
+        let mut line = Line {
+            size,
+            words: &mut words,
+        };
         let mut answers = [Ok(Done::Closed(Cents(1))); 1];
-        let mut ledger = Ledger::new(&mut line, &mut accounts, &mut odd, &mut costs, &mut sheet)?;
+        let mut ledger = Ledger {
+            line: &mut line,
+            accounts: &mut accounts,
+            odd: &mut odd,
+            costs: &mut costs,
+            sheet: &mut sheet,
+        };
         let got = ledger.book_row(&[3, 0, 0, 0, 0, 0, 0, 3], &mut answers);
         assert_eq!(rt; got, Err(Refusal::Short(Lent::Answers)));
         assert_eq!(rt; answers, [Ok(Done::Closed(Cents(1))); 1]);

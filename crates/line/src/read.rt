@@ -129,10 +129,11 @@ pub fn read_line(bytes: &[u8], words: &mut [u64]) -> Result<Size, Refusal>
 }
 
 impl<'a> Line<'a> {
-    // The line that the bytes mean, kept in the words. Where it is refused, `read_line` alone says what the words hold.
+    // The line that the bytes mean, kept in the words that are lent. Where it is refused, `read_line` alone says what the words hold.
     pub fn read(bytes: &[u8], words: &'a mut [u64]) -> Result<Line<'a>, Refusal>
         ensures refused { result_err result ≡ result_err (reading bytes.now (length words.old)) }
         ensures taken { IfOk result (HasRead bytes.now words.old) }
+        ensures lent { IfOk result (λ l. l.words.ghost_name ≡ words.entry.ghost_name) }
     {
         let size = read_line(bytes, words)?;
         Ok(Line { size, words })

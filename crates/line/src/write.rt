@@ -36,8 +36,9 @@ fn unpack(words: &[u64], size: Size, bytes: &mut [u8])
     );
 }
 
+// The bytes are lent, as all memory that the libraries below `report` work in.
 impl Line<'_> {
-    // Writes the line's bytes to the front of what is lent, since a library here has no heap, and answers how many there are. A refusal leaves what is lent as it was.
+    // Writes the line's bytes to the front of what is lent, and answers how many there are. A refusal leaves what is lent as it was.
     pub fn write(&self, bytes: &mut [u8]) -> Result<usize, Refusal>
         ensures answer { result ≡ writing (held self.now) (length bytes.old) }
         ensures after { bytes.new ≡ written (held self.now) bytes.old }

@@ -11,7 +11,7 @@ use line::line::Line;
 use line::size::Size;
 use std::alloc::Global;
 
-// Books a row on the line that the bytes mean, with nothing booked before, and tells the answers and the accounts; or why the line is refused.
+// Books a row on the line that the bytes mean, with nothing booked before, and tells the answers and the accounts; or why the line is refused, or that memory ran out.
 pub fn text(heap: Global, bytes: &[u8], row: &[u8]) -> Result<String, Untold>
     ensures { Told bytes.now row.now result }
 {

@@ -20,7 +20,7 @@ impl Year<'_, '_> {
         ensures count { result ≡ length (listed (held self.now.line.now) (at self.now.costs.now) farm.0 self.now.line.now.size.parts) }
         ensures rest { drop result rows.new ≡ drop result rows.old }
     {
-        // counted by hand: the rows are lent, since a library has no heap, and may be more than are written
+        // counted by hand: the rows are lent, as all memory here is, and may be more than are written
         let mut k = 0;
         for (e, cost) in (0..self.line.size.parts).zip(self.costs) {
             if *cost > 0 && self.line.uses(farm, Part(e)) {
