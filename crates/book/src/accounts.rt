@@ -3,7 +3,9 @@ ghost use Rattle.std.specs.Prelude.{◌≡◌, IfOk, string_bytes};
 ghost use Rattle.book.specs.Accounts.{opening_text, Told};
 
 use crate::trouble::Trouble;
+use line::names::Farm;
 use line::read::check_line;
+use line::refusal::Holder;
 use line::size::Size;
 use std::alloc::{AllocError, Global};
 use std::fmt::Write;
@@ -14,9 +16,9 @@ fn opening(heap: Global, farms: u16) -> Result<String, AllocError>
 {
     let mut text = String::new(heap);
     for i in 0..farms {
-        writeln!(text, "farm {i} 0")?;
+        writeln!(text, "{} 0", Holder::Farm(Farm(i)))?;
     }
-    text.push_str("cooperative 0\n")?;
+    writeln!(text, "{} 0", Holder::Cooperative)?;
     Ok(text)
 }
 

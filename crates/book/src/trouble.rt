@@ -25,6 +25,7 @@ pub enum Trouble {
     Memory,
 }
 
+// The two `From`s are by hand, since a derive's says in no contract which case it makes.
 impl From<Refusal> for Trouble {
     ghost from_gives = { λ refusal trouble. trouble ≡ Refused refusal };
 

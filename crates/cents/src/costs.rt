@@ -1,5 +1,5 @@
 // Splitting a year's costs.
-ghost use Rattle.std.specs.Prelude.{◌≡◌, ℕ, ◌+◌, ◌^◌, ◌<◌, ◌≤◌, min, length, map, position, nat_le};
+ghost use Rattle.std.specs.Prelude.{◌≡◌, ℕ, ◌+◌, ◌^◌, ◌<◌, ◌≤◌, min, length, map};
 ghost use Rattle.std.specs.Result.{result_err};
 ghost use Rattle.line.specs.Held.{held};
 ghost use Rattle.share.specs.Answer.{at};
@@ -14,6 +14,7 @@ use crate::payers::{MOST, level_of, list_counts};
 use line::line::Line;
 use line::names::{Farm, Part};
 use line::refusal::{Holder, Lent, Refusal};
+use number::search::first_from;
 use share::costs::check_costs;
 
 // Splits a part's cost: each user pays the same, and one cent more if it is one of the part's payers.
@@ -66,13 +67,6 @@ fn cap(counts: &mut [u64])
     }
 }
 
-// The first farm whose count is too large.
-fn first_past(counts: &[u64]) -> Option<usize>
-    ensures { result ≡ position (λ count. nat_le COUNTS_END count) counts.now }
-{
-    counts.iter().position(|count| *count >= COUNTS_END)
-}
-
 // Splits a year's costs among the users of each part, to the cent: writes what each farm pays, and how many odd cents it has paid then.
 // A refusal leaves both as they were; numbers past the farms' stay in any case.
 pub fn split_costs(
@@ -96,7 +90,7 @@ pub fn split_costs(
     counts.copy_from_slice(&odd[..farms]);
     cap(counts);
     split_parts(line, costs, counts, cents);
-    if let Some(at) = first_past(counts) {
+    if let Some(at) = first_from(counts, COUNTS_END) {
         return Err(Refusal::Account {
             at,
             whose: Holder::Farm(Farm(at as u16)),

@@ -10,7 +10,7 @@ use line::line::Line;
 use line::names::{Farm, Part};
 use line::refusal::Refusal;
 
-// Sets or clears the farm's bit in a part's row.
+// Writes the farm's bit in a part's row: `uses` is the bit.
 fn mark(row: &mut [u64], farm: Farm, uses: bool)
     requires { farm.0 / 64 < length row.old }
     ensures { WithBit row.old row.new farm.0 uses }

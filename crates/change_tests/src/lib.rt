@@ -124,6 +124,7 @@ mod tests {
         let given = bytes(alloc, farms)?;
         let mut lent = [7u64; LENT];
         let size = read_line(&given, &mut lent)?;
+        // copied before the line holds them
         let mut words = lent;
         let mut line = Line {
             size,

@@ -2,16 +2,22 @@
 use Rattle.std.proofs.Common.{◌≡◌, ℕ, ◌+◌, ◌<◌, ◌≤◌, List, length, Some, None, Option, sym, refl, arith}
 use Rattle.std.specs.Option.{option_or, option_map}
 use Rattle.std.proofs.lemmas.Bool.{le-ltb, ltb-false, or_parts}
+use Rattle.std.proofs.lemmas.Option.{none-some}
 use Rattle.line.specs.declared.refusal.Holder.{Holder}
 use Rattle.line.specs.declared.refusal.Refusal.{Refusal}
 use Rattle.line.specs.declared.size.Size.{Size}
-use Rattle.share.specs.Answer.{costs_refused}
+use Rattle.share.specs.Answer.{costs_refused, few_refused}
 use Rattle.share.proofs.Refusing.{passed, costs_small}
 use Rattle.posting.specs.Posting.{out_of_range}
 use Rattle.ledger.specs.Held.{state_of}
 use Rattle.ledger.specs.Open.{holder_refusal, blank, lent_refused}
 use Rattle.ledger.specs.Room.{sheet_length, LentFits}
 use Rattle.ledger.proofs.Ranges.{accounts_fit, counts_fit}
+
+-- enough costs are lent where fewer are not refused
+pub enough : (m : ℕ) (costs : List ℕ) → None ≡ few_refused m costs → m ≤ length costs
+unfolding few_refused
+enough m costs h = ltb-false _ _ (passed _ _ _ (sym h)).0
 
 -- where all is long enough, the costs are asked, then the accounts and counts
 pub lent_on : (s : Size) (accounts odd costs : List ℕ) (sheet : ℕ) → s.farms + 1 ≤ length accounts → s.farms ≤ length odd → s.parts ≤ length costs →
@@ -22,11 +28,11 @@ lent_on s accounts odd costs sheet a o c r whose h is off = rw (is, off, le-ltb 
 
 -- a refusal that is not there
 other_none : (r x : Option Refusal) → option_or r x ≡ None → (r ≡ None) × (x ≡ None)
-other_none (Some e) x h = let z : ◌≡◌ {A = ℕ} 0 1 = cc in absurd (omega arith)
+other_none (Some e) x h = absurd (none-some e (sym h))
 other_none None x h = (refl, h)
 
 mapped_none : (f : Holder → Refusal) (o : Option Holder) → option_map f o ≡ None → o ≡ None
-mapped_none f (Some w) h = let z : ◌≡◌ {A = ℕ} 0 1 = cc in absurd (omega arith)
+mapped_none f (Some w) h = absurd (none-some (f w) (sym h))
 mapped_none f None h = refl
 
 -- room for one more than n

@@ -12,7 +12,7 @@ use line::line::Line;
 use line::read::{check_line, read_line};
 use line::refusal::{Holder, Lent, Refusal};
 use line::size::Size;
-use share::costs::check_costs;
+use share::costs::{check_costs, check_enough};
 
 // The most bytes that the sheet of a closing takes.
 pub fn sheet_bytes(size: Size) -> usize
@@ -32,8 +32,8 @@ pub(crate) fn account_place(farms: u16, whose: Holder) -> usize
     }
 }
 
-// Refuses what is lent for a line of this size if it is too short or out of range.
-#[tactic(auto, unfolding(crate::specs::Open::lent_refused, share::specs::Answer::costs_refused))]
+// Refuses what is lent for a line of this size if it is too short or out of range. Each row is lent by itself: `Ledger` is what holds them together.
+#[tactic(auto, unfolding(crate::specs::Open::lent_refused, share::specs::Answer::costs_refused, share::specs::Answer::few_refused))]
 fn check_lent(
     size: Size,
     accounts: &[u64],
@@ -47,9 +47,7 @@ fn check_lent(
     if accounts.len() < farms + 1 || odd.len() < farms {
         return Err(Refusal::Short(Lent::Accounts));
     }
-    if costs.len() < size.parts as usize {
-        return Err(Refusal::Short(Lent::Costs));
-    }
+    check_enough(costs, size.parts)?;
     if sheet.len() < sheet_bytes(size) {
         return Err(Refusal::Short(Lent::Sheet));
     }

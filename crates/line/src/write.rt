@@ -15,6 +15,7 @@ fn unpack_row(words: &[u64], bytes: &mut [u8])
     ensures { (i : ℕ) → i < 8 * length bytes.new → in_row 8 bytes.new i ≡ in_row 64 words.now i }
 {
     for (k, byte) in bytes.iter_mut().enumerate() {
+        // one byte of a word, where `to_le_bytes` would make eight
         *byte = (words[k / 8] >> (8 * (k % 8)) & 0xff) as u8;
     }
 }

@@ -106,11 +106,7 @@ mod tests {
     #[test]
     fn too_few_bytes(rt: HostRuntime) -> Result<(), Fail> {
         let mut words = [0u64; 3];
-        let size = read_line(&[3, 0, 3, 0, 7, 6, 4], &mut words)?;
-        let line = Line {
-            size,
-            words: &mut words,
-        };
+        let line = Line::read(&[3, 0, 3, 0, 7, 6, 4], &mut words)?;
         let mut out = [9u8; 6];
         assert_eq!(rt; line.write(&mut out), Err(Refusal::Short(Lent::Line)));
         assert_eq!(rt; out, [9u8; 6]);

@@ -5,3 +5,4 @@ pub mod cents;
 pub mod divisors;
 pub mod fraction;
 pub mod laws;
+pub mod search;

@@ -1,6 +1,7 @@
 -- What is told of a row that was booked.
 use Rattle.std.proofs.Common.{◌≡◌, ℕ, ◌<◌, ◌≤◌, cond, List, length, get_or, Some, None, Ok, Err, sym, refl, ap, ◌∙◌, ap₂, inl, inr, arith}
 use Rattle.std.proofs.lemmas.List.FromFn.{fill_by_all}
+use Rattle.std.proofs.lemmas.Option.{none-some}
 use Rattle.std.proofs.lemmas.Bool.{cases_lt, lt-ltb, le-ltb}
 use Rattle.line.specs.declared.refusal.Refusal.{Refusal}
 use Rattle.line.specs.declared.refusal.Refusal.TheVariants.{Length}
@@ -16,9 +17,7 @@ pub never_refused : (row : List ℕ) (lent : ℕ) (e : Refusal) → answers_of r
 unfolding row_refused
 never_refused row lent e room h =
     let is : row_refused row lent ≡ None = rw (le-ltb lent (answers_of row) room) refl in
-    let no = h ∙ is in
-    let z : ◌≡◌ {A = ℕ} 0 1 = cc in
-    omega arith
+    none-some e (sym (h ∙ is))
 
 module _ (s t : State) (row : List ℕ) (before after : List Answer) (done : Done s row before t after) where
   each : (k : ℕ) → k < answers_of row → get_or after k (Ok Booked) ≡ answer_at s row k

@@ -17,6 +17,7 @@ pub enum Untold {
     OutOfMemory,
 }
 
+// The two `From`s are by hand, since a derive's says in no contract which case it makes.
 impl From<Refusal> for Untold {
     ghost from_gives = { λ why u. u ≡ Refused why };
 

@@ -1,8 +1,9 @@
 -- What is refused, test by test.
-use Rattle.std.proofs.Common.{◌≡◌, ℕ, ◌<◌, ◌≤◌, Bool, true, false, cond, nat_le, List, length, take, position, option_map, slice_index_or, Some, None, Option, Result, Ok, Err, refl, ap, ◌∙◌, arith}
+use Rattle.std.proofs.Common.{◌≡◌, ℕ, ◌<◌, ◌≤◌, Bool, true, false, cond, nat_le, List, length, take, position, option_map, slice_index_or, Some, None, Option, Result, Ok, Err, sym, refl, ap, ◌∙◌, arith}
 use Rattle.std.proofs.lemmas.Bool.{ltb-false, leb-false}
 use Rattle.std.specs.Result.{IsErrAnd, result_err}
 use Rattle.std.proofs.lemmas.List.{get_or-take, get_or_default, length-take-le}
+use Rattle.std.proofs.lemmas.Option.{none-some}
 use Rattle.number.proofs.Firsts.{each_fails}
 use Rattle.number.proofs.Positions.{position_found, found_map}
 use Rattle.line.specs.declared.refusal.Refusal.{Refusal}
@@ -13,7 +14,7 @@ use Rattle.share.specs.Answer.{at, too_large, large_refused, costs_refused, know
 
 -- a test that refuses has failed where nothing is refused
 pub passed : (t : Bool) (e : Refusal) (x : Option Refusal) → cond t (Some e) x ≡ None → (t ≡ false) × (x ≡ None)
-passed true e x h = let z : ◌≡◌ {A = ℕ} 0 1 = cc in absurd (omega arith)
+passed true e x h = absurd (none-some e (sym h))
 passed false e x h = (refl, h)
 
 -- what is refused of what the library's `position` finds among the first m costs

@@ -1,31 +1,25 @@
 // Costs that are refused.
-ghost use Rattle.std.specs.Prelude.{◌≡◌, ◌≤◌, length, position, nat_le};
+ghost use Rattle.std.specs.Prelude.{◌≡◌, ◌≤◌, length};
 ghost use Rattle.std.specs.Result.{result_err};
 ghost use Rattle.share.specs.Answer.{few_refused, large_refused, costs_refused};
 
 use line::limits::COSTS_END;
 use line::refusal::{Lent, Refusal};
-
-// The first cost that is too large.
-fn first_large(costs: &[u64]) -> Option<usize>
-    ensures { result ≡ position (λ cost. nat_le COSTS_END cost) costs.now }
-{
-    costs.iter().position(|cost| *cost >= COSTS_END)
-}
+use number::search::first_from;
 
 // Refuses the first of so many parts whose cost is too large.
 pub(crate) fn check_large(costs: &[u64], parts: u16) -> Result<(), Refusal>
     requires { parts ≤ length costs.now }
     ensures { result_err result ≡ large_refused parts costs.now }
 {
-    match first_large(&costs[..parts as usize]) {
+    match first_from(&costs[..parts as usize], COSTS_END) {
         Some(part) => Err(Refusal::Amount(part)),
         None => Ok(()),
     }
 }
 
 // Refuses fewer costs than so many parts have.
-pub(crate) fn check_enough(costs: &[u64], parts: u16) -> Result<(), Refusal>
+pub fn check_enough(costs: &[u64], parts: u16) -> Result<(), Refusal>
     ensures { result_err result ≡ few_refused parts costs.now }
 {
     if costs.len() < parts as usize {

@@ -24,7 +24,7 @@ impl Balance {
     }
 
     // The balance that a word holds, read with its sign: None if it is out of range.
-    // (A `TryFrom<u64>` would be a numeric conversion, and refuse each word of 2^63 or more.)
+    // (As a `TryFrom<u64>` it would read as the same number, which it is not for a word of 2^63 or more.)
     pub fn of_word(word: u64) -> Option<Balance>
         ensures { Standing (to_z w64 word) result }
     {
