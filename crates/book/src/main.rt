@@ -37,7 +37,7 @@ fn run(rt: &HostRuntime) -> Result<ExitCode, Trouble> {
         }
         Ok(_) if !bookings.is_empty() => Err(Trouble::Bookings),
         told => {
-            // in one piece
+            // in one piece, as a reader who leaves early does not cut it off then
             let text = told?;
             let written = rt.stdout().write_all(text.as_bytes());
             written.map_err(Trouble::Output)?;

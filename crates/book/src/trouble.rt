@@ -15,6 +15,7 @@ pub enum Trouble {
     Arguments(io::Error),
     #[error("book: cannot read {0:?}: {1}")]
     Unreadable(String, io::Error),
+    // this and `Memory` are also why `report` tells nothing of a row, but `book` does not stand on it
     #[error("{0}")]
     Refused(Refusal),
     #[error("book: BOOKINGS must be empty: bookings cannot be booked yet")]

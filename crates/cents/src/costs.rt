@@ -41,7 +41,7 @@ fn split_part(line: &Line, part: Part, cost: u64, odd: &mut [u64], sums: &mut [u
     }
 }
 
-// Splits the costs part by part.
+// Splits the costs part by part. The line and the two rows go as three arguments, as they are lent.
 pub fn split_parts(line: &Line, costs: &[u64], odd: &mut [u64], sums: &mut [u64])
     requires asked { Asked (held line.now) costs.now odd.old }
     requires room { line.now.size.farms ≤ length sums.old }
@@ -83,6 +83,7 @@ pub fn split_costs(
         return Err(Refusal::Short(Lent::Accounts));
     }
     check_costs(costs, line.size.parts)?;
+    // zeros for the most farms, of which the front is used: an `ArrayVec` would have to be filled first
     let mut counts = [0; MOST];
     let mut cents = [0; MOST];
     let counts = &mut counts[..farms];

@@ -1,4 +1,4 @@
-// A farm joins a part of the line, or leaves it.
+// A farm joins a part of the line, or leaves it. Line, farm and part go as three arguments, as `join` and `leave` are called with them.
 ghost use Rattle.std.specs.Prelude.{◌≡◌, ◌/◌, ◌<◌, None, length};
 ghost use Rattle.std.specs.Result.{result_err};
 ghost use Rattle.line.specs.Held.{held};

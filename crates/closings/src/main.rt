@@ -73,10 +73,9 @@ fn run(rt: &HostRuntime) -> anyhow::Result<()> {
     let bytes = fs::read(rt, name.as_str())?;
     let mut words = vec![in rt.alloc(); 0; Size::LARGEST.words()]?;
     let mut books = Books::new(rt.alloc())?;
-    let done = books.close_all(bytes.as_slice(), words.as_mut_slice(), years);
-    if done.is_err() {
-        return Err(anyhow!("{:?}", "closings: the line or a year is refused"));
-    }
+    books
+        .close_all(bytes.as_slice(), words.as_mut_slice(), years)
+        .map_err(|_| anyhow!("{:?}", "closings: the line or a year is refused"))?;
     println!(rt; "odd cents {}", total(books.odd.as_slice()))?;
     println!(rt; "cents of the last year {}", total(books.sums.as_slice()))?;
     Ok(())

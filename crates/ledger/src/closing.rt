@@ -33,7 +33,7 @@ fn moved(account: u64, cents: i64) -> u64
     (account.cast_signed() + cents).cast_unsigned()
 }
 
-// Takes each farm's sum from its account, puts all sums into the cooperative's, and answers what they come to.
+// Takes each farm's sum from its account, adds them up on the way, puts all sums into the cooperative's, and answers what they come to.
 fn settle(sums: &[u64], accounts: &mut [u64]) -> Cents
     requires room { length sums.now < length accounts.old }
     requires fit { AccountsFit (length sums.now) accounts.old }

@@ -62,7 +62,7 @@ fn check_lent(
 }
 
 // Fills lent words with the line that the bytes mean, and answers its size, if all that is lent beside them is long enough and in range:
-// then `Ledger` is made of them. A refusal leaves the words as they were, and words past the line's stay in any case.
+// then `Ledger` is made of them. A refusal leaves the words as they were, and words past the line's stay in any case: `Ledger::new`, which makes one of a line in one call, cannot say that.
 #[tactic(auto, using(crate::proofs::Lending::lent_fine), unfolding(crate::specs::Open::opening, crate::specs::Open::opened_words))]
 pub fn open(
     bytes: &[u8],

@@ -65,7 +65,7 @@ impl Ledger<'_, '_, '_> {
         Ok(Done::Booked)
     }
 
-    // Books a payment: it goes into the farm's account.
+    // Books a payment: it goes into the farm's account. It ends as a cost does but for the sign and the part's costs, and a function for both ends would take as many lines to call.
     #[tactic(auto, unfolding(posting::specs::Posting::refused, posting::specs::Posting::post))]
     pub(crate) fn book_payment(&mut self, at: usize, farm: Farm, cents: Cents) -> Answer
         ensures posted { Posted at (held self.old) (Payment farm cents) (held self.new) result }

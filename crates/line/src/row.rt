@@ -13,6 +13,7 @@ pub(crate) fn row_of<T>(rows: &[T], width: usize, e: usize) -> &[T]
 
 // Writes so many rows of `to`, each by `copy` from the same row of `from`. What comes after them stays.
 // It goes by an index, since nothing is known of the elements that `chunks_exact_mut` lends once they are given back.
+// Rows and their width go as two arguments: a struct of both would be made here alone, once for each side.
 pub(crate) fn copy_rows<S, T, F: Fn(&[S], &mut [T])>(
     from: &[S],
     from_width: usize,

@@ -15,7 +15,7 @@ use std::alloc::Global;
 pub fn text(heap: Global, bytes: &[u8], row: &[u8]) -> Result<String, Untold>
     ensures { Told bytes.now row.now result }
 {
-    // each row is lent to the ledger by itself
+    // each row is lent to the ledger by itself, as memory of the caller's
     let most = Size::LARGEST;
     let mut words = vec![in heap; 0u64; most.words()]?;
     let mut accounts = vec![in heap; 0u64; most.farms as usize + 1]?;
