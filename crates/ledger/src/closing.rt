@@ -91,7 +91,7 @@ pub(crate) fn whose_off(accounts: &[u64], odd: &[u64], farms: u16) -> Option<Hol
     }
 }
 
-// The first n numbers of a row, in an array with room for more.
+// The first n numbers of a row, in an array with room for more. (`cents` copies just the farms' counts, into a slice of that length.)
 fn front<const N: usize>(row: &[u64], n: usize) -> [u64; N]
     requires lent { n ≤ length row.now }
     requires room { n ≤ N }

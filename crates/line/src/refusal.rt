@@ -23,6 +23,7 @@ pub enum Holder {
     Cooperative,
 }
 
+// Why something is refused. The tests that refuse stand each where its turn is, as one comparison with its own number and place: the rules set their order.
 #[derive(Clone, Copy, PartialEq, Eq, Debug)]
 pub enum Refusal {
     // Bytes end too early, or go on: their number, or the first too many.
