@@ -1,5 +1,5 @@
 // Costs and payments.
-ghost use Rattle.std.specs.Prelude.{◌≡◌, ◌+◌, ◌<◌, ◌&&◌, nat_lt};
+ghost use Rattle.std.specs.Prelude.{◌≡◌, ◌+◌, ◌<◌, ◌&&◌, IsSome, IsSomeAnd, nat_lt};
 ghost use Rattle.line.specs.Limits.{costs_end};
 ghost use Rattle.account.specs.Range.{bookable};
 ghost use Rattle.account.specs.declared.booking.Booking.TheVariants.{Cost, Payment};
@@ -34,13 +34,24 @@ fn is_cost(before: u64, cents: Cents) -> bool
 }
 
 impl Ledger<'_, '_, '_> {
-    // The balance of a holder's account.
-    pub fn balance(&self, whose: Holder) -> Balance
+    // The balance of the account of a holder that there is.
+    fn kept(&self, whose: Holder) -> Balance
         requires { IsHolder self.now.line.now.size.farms whose }
         ensures { result.cents ≡ balance_of (held self.now) whose }
     {
         let at = account_place(self.line.size.farms, whose);
         Balance::of_word(self.accounts[at]).unwrap()
+    }
+
+    // The balance of a holder's account: None only if there is no such farm.
+    pub fn balance(&self, whose: Holder) -> Option<Balance>
+        ensures some { IsHolder self.now.line.now.size.farms whose → IsSomeAnd result (λ b. b.cents ≡ balance_of (held self.now) whose) }
+        ensures none { IsSome result → IsHolder self.now.line.now.size.farms whose }
+    {
+        match whose {
+            Holder::Farm(farm) if farm.0 >= self.line.size.farms => None,
+            _ => Some(self.kept(whose)),
+        }
     }
 
     // Books a cost: it is added to the part's, and taken from the cooperative's account.
@@ -57,7 +68,7 @@ impl Ledger<'_, '_, '_> {
             return Err(Refusal::Amount(at));
         }
         let whose = Holder::Cooperative;
-        let Some(balance) = self.balance(whose).minus(cents) else {
+        let Some(balance) = self.kept(whose).minus(cents) else {
             return Err(Refusal::Account { at, whose });
         };
         self.accounts[self.line.size.farms as usize] = balance.word();
@@ -79,7 +90,7 @@ impl Ledger<'_, '_, '_> {
         }
         let i = farm.0 as usize;
         let whose = Holder::Farm(farm);
-        let Some(balance) = self.balance(whose).plus(cents) else {
+        let Some(balance) = self.kept(whose).plus(cents) else {
             return Err(Refusal::Account { at, whose });
         };
         self.accounts[i] = balance.word();

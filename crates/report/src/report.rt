@@ -38,8 +38,10 @@ fn push_account(ledger: &Ledger, whose: Holder, text: &mut String) -> Result<(),
     requires { IsHolder ledger.now.line.now.size.farms whose }
     ensures { OnOk result (string_bytes text.new ≡ string_bytes text.old ++ account_text whose (balance_of (held ledger.now) whose)) }
 {
-    let balance = ledger.balance(whose);
-    writeln!(text, "{whose} {balance}")
+    match ledger.balance(whose) {
+        Some(balance) => writeln!(text, "{whose} {balance}"),
+        None => Ok(()),
+    }
 }
 
 // Adds the lines of all farms.
