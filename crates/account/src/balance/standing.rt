@@ -25,6 +25,7 @@ impl Balance {
 
     // The balance that a word holds, read with its sign: None if it is out of range.
     // (As a `TryFrom<u64>` it would read as the same number, which it is not for a word of 2^63 or more.)
+    #[tactic(auto, unfolding(crate::specs::Range::in_range, crate::specs::Limits::account_most))]
     pub fn of_word(word: u64) -> Option<Balance>
         ensures { Standing (to_z w64 word) result }
     {
