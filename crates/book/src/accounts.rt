@@ -3,8 +3,8 @@ ghost use Rattle.std.specs.Prelude.{◌≡◌, IfOk, string_bytes};
 ghost use Rattle.book.specs.Accounts.{opening_text, Told};
 
 use crate::trouble::Trouble;
+use line::line::Line;
 use line::names::Farm;
-use line::read::check_line;
 use line::refusal::Holder;
 use line::size::Size;
 use std::alloc::{AllocError, Global};
@@ -23,9 +23,12 @@ fn opening(heap: Global, farms: u16) -> Result<String, AllocError>
 }
 
 // The accounts of the line that the bytes mean, or why they are not told.
+#[tactic(auto, unfolding(line::specs::Limits::most_farms, line::specs::Limits::most_parts))]
 pub fn accounts(heap: Global, line: &[u8]) -> Result<String, Trouble>
     ensures { Told line.now result }
 {
-    let size = check_line(line, Size::LARGEST.words())?;
-    Ok(opening(heap, size.farms)?)
+    // as many as the largest line takes, so that none is refused for too few
+    let mut words = vec![in heap; 0u64; Size::LARGEST.words()]?;
+    let line = Line::read(line, words.as_mut_slice())?;
+    Ok(opening(heap, line.size.farms)?)
 }
