@@ -1,49 +1,22 @@
--- How many counts of a list are below a number, and the level that selecting one finds.
-use Rattle.std.proofs.Common.{◌≡◌, ℕ, suc, ◌+◌, ◌<◌, ◌≤◌, ltb, Bool, true, false, ◌&&◌, List, [], ◌∷◌, ◌++◌, length, get_or, refl, sym, ap, ◌∙◌, arith}
-use Rattle.std.specs.List.Sorted.{IsPermutation, IsSplitAround}
-use Rattle.std.specs.Ordering.{nat_cmp}
+-- How many counts of a list are below a number.
+use Rattle.std.proofs.Common.{◌≡◌, ℕ, suc, ◌+◌, ◌<◌, ◌≤◌, ltb, Bool, true, false, ◌&&◌, List, [], ◌∷◌, ◌++◌, length, refl, ap, arith}
 use Rattle.std.proofs.lemmas.Bool.{lt-ltb, le-ltb}
-use Rattle.std.proofs.lemmas.List.Sorted.{sum_by-IsPermutation}
-use Rattle.std.proofs.lemmas.List.Sums.{sum_by-cons, sum_by-append, sum_by_push}
-use Rattle.std.proofs.lemmas.Map.Keys.{ge_from_not_lt}
+use Rattle.std.proofs.lemmas.List.Sums.{sum_by-cons, sum_by_push}
 use Rattle.std.proofs.lemmas.List.{length_push}
 use Rattle.number.specs.Sum.{sum, one}
 use Rattle.number.proofs.Sums.{sum_next, count_most}
+use Rattle.share.specs.Answer.{at}
 use Rattle.cents.specs.Marking.{under, fewer, Listed}
 
--- of counts that are not below t none is
-none_below : (xs : List ℕ) (t : ℕ) → ((k d : ℕ) → k < length xs → t ≤ get_or xs k d) → fewer xs t ≡ 0
+-- where no count is below t
+pub none_below : (counts : List ℕ) (t : ℕ) → ((j : ℕ) → j < length counts → t ≤ at counts j) → fewer counts t ≡ 0
 none_below [] t h = refl
-none_below (x ∷ xs) t h = omega (arith, sum_by-cons (λ y. one (ltb y t)) x xs, ap one (le-ltb x t (h 0 0 (omega arith))), none_below xs t (λ k d l. h (suc k) d (omega arith)))
+none_below (x ∷ xs) t h = omega (arith, sum_by-cons (λ y. one (ltb y t)) x xs, ap one (le-ltb x t (h 0 (omega arith))), none_below xs t (λ j l. h (suc j) (omega arith)))
 
--- and of counts that are all below t all are
-all_below : (xs : List ℕ) (t : ℕ) → ((k d : ℕ) → k < length xs → get_or xs k d < t) → fewer xs t ≡ length xs
+-- and where all are
+pub all_below : (counts : List ℕ) (t : ℕ) → ((j : ℕ) → j < length counts → at counts j < t) → fewer counts t ≡ length counts
 all_below [] t h = refl
-all_below (x ∷ xs) t h = omega (arith, sum_by-cons (λ y. one (ltb y t)) x xs, ap one (lt-ltb x t (h 0 0 (omega arith))), all_below xs t (λ k d l. h (suc k) d (omega arith)))
-
--- counts in another order, cut at one of them: before it, at it, and after it
-fewer_cut : (counts before after : List ℕ) (count t : ℕ) → IsPermutation counts (before ++ count ∷ after) → fewer counts t ≡ fewer before t + (one (ltb count t) + fewer after t)
-fewer_cut counts before after count t moved =
-    let below : ℕ → ℕ = λ y. one (ltb y t) in
-    sym (sum_by-IsPermutation below counts (before ++ count ∷ after) moved) ∙ sum_by-append below before (count ∷ after) ∙ ap (λ n. fewer before t + n) (sum_by-cons below count after)
-
--- where none before it is greater and none after it is less, all that are below it stand before it, and more than stand before it are below the next number
-pub selected : (counts before after : List ℕ) (count : ℕ) → IsPermutation counts (before ++ count ∷ after) → IsSplitAround nat_cmp before count after →
-    (fewer counts count ≡ fewer before count) × (length before < fewer counts (count + 1))
-selected counts before after count moved split = (
-  omega (
-    arith,
-    fewer_cut counts before after count count moved,
-    ap one (le-ltb count count (omega arith)),
-    none_below after count (λ k d l. ge_from_not_lt (get_or after k d) count (split.1 k d l)),
-  ),
-  omega (
-    arith,
-    fewer_cut counts before after count (count + 1) moved,
-    ap one (lt-ltb count (count + 1) (omega arith)),
-    all_below before (count + 1) (λ k d l. let g = ge_from_not_lt count (get_or before k d) (split.0 k d l) in omega arith),
-  ),
-)
+all_below (x ∷ xs) t h = omega (arith, sum_by-cons (λ y. one (ltb y t)) x xs, ap one (lt-ltb x t (h 0 (omega arith))), all_below xs t (λ j l. h (suc j) (omega arith)))
 
 module _ (p : ℕ → Bool) (odd : ℕ → ℕ) where
   under_next : (n t : ℕ) → under (n + 1) p odd t ≡ under n p odd t + one (p n && ltb (odd n) t)

@@ -11,14 +11,22 @@ ghost use Rattle.cents.specs.Split.{cents, odd_after};
 
 use crate::limits::COUNTS_END;
 use crate::payers::{MOST, level_of, list_counts};
+use arrayvec::ArrayVec;
 use line::line::Line;
 use line::names::{Farm, Part};
 use line::refusal::{Holder, Lent, Refusal};
 use number::search::first_from;
 use share::costs::check_costs;
 
-// Splits a part's cost: each user pays the same, and one cent more if it is one of the part's payers.
-fn split_part(line: &Line, part: Part, cost: u64, odd: &mut [u64], sums: &mut [u64])
+// Splits a part's cost: each user pays the same, and one cent more if it is one of the part's payers. The users' counts are listed in `counts`, whatever stood there.
+fn split_part(
+    line: &Line,
+    part: Part,
+    cost: u64,
+    odd: &mut [u64],
+    sums: &mut [u64],
+    counts: &mut ArrayVec<u64, MOST>,
+)
     requires part { part.0 < line.now.size.parts }
     requires counts { line.now.size.farms ≤ length odd.old }
     requires cents { line.now.size.farms ≤ length sums.old }
@@ -27,10 +35,10 @@ fn split_part(line: &Line, part: Part, cost: u64, odd: &mut [u64], sums: &mut [u
     ensures counts { (i : ℕ) → at odd.new i ≡ odd_after (held line.now) (once (held line.now)) part.0 cost (at odd.old) i }
     ensures cents { (i : ℕ) → at sums.new i ≡ at sums.old i + cents (held line.now) (once (held line.now)) part.0 cost (at odd.old) i }
 {
-    let mut counts = list_counts(line, part, odd);
+    list_counts(line, part, odd, counts);
     let users = counts.len() as u64;
     let each = cost / users;
-    let mut level = level_of(counts.as_mut_slice(), (cost % users) as usize);
+    let mut level = level_of(counts.as_slice(), (cost % users) as usize);
     // By the farms' numbers: after a zip of both rows' `iter_mut` a proof knows how long they are, and nothing of what was written.
     for i in 0..line.size.farms {
         if line.uses(Farm(i), part) {
@@ -51,9 +59,11 @@ pub fn split_parts(line: &Line, costs: &[u64], odd: &mut [u64], sums: &mut [u64]
     ensures counts_rest { (i : ℕ) → line.now.size.farms ≤ i → at odd.new i ≡ at odd.old i }
     ensures cents_rest { (i : ℕ) → line.now.size.farms ≤ i → at sums.new i ≡ at sums.old i }
 {
+    // one list for all parts: one made for each, and handed back by value, takes longer than a part with few users
+    let mut counts = ArrayVec::new();
     for (e, cost) in (0..line.size.parts).zip(costs) {
         if *cost > 0 {
-            split_part(line, Part(e), *cost, odd, sums);
+            split_part(line, Part(e), *cost, odd, sums, &mut counts);
         }
     }
 }

@@ -13,17 +13,17 @@ use Rattle.cents.proofs.costs.split_part.Goals.{then-uses, else-uses}
 
 pub nonzero_div-each : goal.nonzero_div-each
 unfolding users
-nonzero_div-each c = omega (arith, c.args.line.now.sound.used c.args.part.0 c.requires.part, c.list_counts-counts.ensures.all)
+nonzero_div-each c = omega (arith, c.args.line.now.sound.used c.args.part.0 c.requires.part, c.list_counts.ensures.all)
 
 pub nonzero_rem-cost : goal.nonzero_rem-cost
 unfolding users
-nonzero_rem-cost c = omega (arith, c.args.line.now.sound.used c.args.part.0 c.requires.part, c.list_counts-counts.ensures.all)
+nonzero_rem-cost c = omega (arith, c.args.line.now.sound.used c.args.part.0 c.requires.part, c.list_counts.ensures.all)
 
 pub level_of-level-requires : goal.level_of-level-requires
 unfolding users
 level_of-level-requires c =
-    let some : 0 < c.len-users.result = omega (arith, c.args.line.now.sound.used c.args.part.0 c.requires.part, c.list_counts-counts.ensures.all) in
-    omega (arith, mod_below c.args.cost c.len-users.result some, ap length c.as_mut_slice.ensures.value)
+    let some : 0 < c.len-users.result = omega (arith, c.args.line.now.sound.used c.args.part.0 c.requires.part, c.list_counts.ensures.all) in
+    omega (arith, mod_below c.args.cost c.len-users.result some, ap length c.as_slice.ensures.value)
 
 pub loop-i-init : goal.loop-i-init
 loop-i-init c =
@@ -62,8 +62,8 @@ loop-i-preserved c =
     let i = c.loop-i.i in
     let odd = at c.args.odd.now in
     let level = c.level_of-level.result in
-    let many : length c.list_counts-counts.result.items ≡ c.len-users.result = sym c.len-users.ensures.value in
-    let counts : c.as_mut_slice.result.now ≡ c.list_counts-counts.result.items = c.as_mut_slice.ensures.value in
+    let many : length c.list_counts.new.counts.items ≡ c.len-users.result = sym c.len-users.ensures.value in
+    let counts : c.as_slice.result.now ≡ c.list_counts.new.counts.items = c.as_slice.ensures.value in
     let past : (k : ℕ) → line.size.farms ≤ k → l.uses k e ≡ false = λ k h. and_left (ltb k line.size.farms) _ (le-ltb k line.size.farms h) in
     elim c.if-uses.branch [
       | then-uses w ↦
@@ -71,8 +71,8 @@ loop-i-preserved c =
           let paid = c.loop-i.invariant.rows.counts_after i (omega arith) in
           record {
             rows = halfway_at l _ _ _ _ (i + 1) w.odd-is w.sums-is
-                (halfway_user l _ _ _ _ c.len-users.result _ c.loop-i.invariant.rows (omega (arith, c.requires.counts)) (omega (arith, c.requires.cents)) uses (sym many ∙ c.list_counts-counts.ensures.all)
-                (w.one_more-more.ensures.more ∙ ap one (chosen_next _ odd level.count level.left i c.loop-i.level.left _ _ c.loop-i.invariant.left uses paid c.loop-i.invariant.level ∙ sym (chosen-pays l e c.args.cost odd level.count level.left i past c.list_counts-counts.ensures (rw (many, ← counts) c.level_of-level.ensures.left) (rw (many, ← counts) c.level_of-level.ensures.next)))));
+                (halfway_user l _ _ _ _ c.len-users.result _ c.loop-i.invariant.rows (omega (arith, c.requires.counts)) (omega (arith, c.requires.cents)) uses (sym many ∙ c.list_counts.ensures.all)
+                (w.one_more-more.ensures.more ∙ ap one (chosen_next _ odd level.count level.left i c.loop-i.level.left _ _ c.loop-i.invariant.left uses paid c.loop-i.invariant.level ∙ sym (chosen-pays l e c.args.cost odd level.count level.left i past c.list_counts.ensures (rw (many, ← counts) c.level_of-level.ensures.left) (rw (many, ← counts) c.level_of-level.ensures.next)))));
             level = ap (λ v. v.count) w.level-is ∙ w.one_more-more.ensures.count ∙ c.loop-i.invariant.level;
             left = left_user _ odd level.count level.left i c.loop-i.level.left _ _ c.loop-i.invariant.left uses paid c.loop-i.invariant.level c.if-uses.level.left (ap (λ v. v.left) w.level-is ∙ w.one_more-more.ensures.left);
           }

@@ -9,7 +9,7 @@ use Rattle.cents.proofs.payers.list_counts.Goals as goal
 use Rattle.cents.proofs.payers.list_counts.Goals.{then-uses, else-uses}
 
 pub loop-i-init : goal.loop-i-init
-loop-i-init c = listed_none (λ i. (held c.args.line.now).uses i c.args.part.0) (at c.args.odd.now) c.new-counts.result.items c.new-counts.ensures
+loop-i-init c = listed_none (λ i. (held c.args.line.now).uses i c.args.part.0) (at c.args.odd.now) c.clear.new.self.items c.clear.ensures
 
 pub push-requires : goal.push-requires
 unfolding most_farms
