@@ -110,13 +110,19 @@ module _ (l : Line) (accounts odd costs : List ℕ) where
         ∙ odds_same l (once l) (at costs) s.costs (at odd) s.odd l.parts (λ e k. sym (inside_below l.parts 0 (at costs) e k)) (λ j k. sym (inside_below l.farms 0 (at odd) j k)) l.parts (omega arith) i h)
         (λ i h. sym (odds_outside l (once l) s.costs s.odd i (λ e. outside i e h) l.parts ∙ inside_past l.farms 0 (at odd) i h)))
 
+-- rows that agree below the farms and the parts hold the same state
+pub rows_same : (l : Line) (accounts accounts' odd odd' costs costs' : List ℕ) →
+    ((i : ℕ) → i ≤ l.farms → at accounts i ≡ at accounts' i) → ((i : ℕ) → i < l.farms → at odd i ≡ at odd' i) → ((e : ℕ) → e < l.parts → at costs e ≡ at costs' e) →
+    state_of l accounts odd costs ≡ state_of l accounts' odd' costs'
+rows_same l accounts accounts' odd odd' costs costs' a o c =
+    state_same _ _ refl (inside_same l.farms (pos 0) _ _ (λ i h. ap (to_z w64) (a i (omega arith)))) (ap (to_z w64) (a l.farms (omega arith))) (inside_same l.parts 0 _ _ c) (inside_same l.farms 0 _ _ o)
+
 -- rows that agree with others below the farms, and have no costs
 pub cleared_rows : (l : Line) (accounts accounts' odd odd' costs costs' : List ℕ) →
     ((i : ℕ) → i ≤ l.farms → at accounts' i ≡ at accounts i) → ((i : ℕ) → i < l.farms → at odd' i ≡ at odd i) → ((e : ℕ) → e < l.parts → at costs' e ≡ 0) →
     state_of l accounts' odd' costs' ≡ cleared (state_of l accounts odd costs)
 cleared_rows l accounts accounts' odd odd' costs costs' a o c =
-    state_same _ _ refl (inside_same l.farms (pos 0) _ _ (λ i h. ap (to_z w64) (a i (omega arith)))) (ap (to_z w64) (a l.farms (omega arith)))
-    (inside_is l.parts 0 (at costs') (λ _. 0) c (λ _ _. refl)) (inside_same l.farms 0 _ _ o)
+    rows_same l accounts' accounts odd' odd costs' costs' a o (λ _ _. refl) ∙ state_same _ _ refl refl refl (inside_is l.parts 0 (at costs') (λ _. 0) c (λ _ _. refl)) refl
 
 -- what is copied to the front of a row
 pub front : (n : ℕ) (new from rest : List ℕ) → new ≡ take n from → n ≤ length from → (i : ℕ) → i < n → at (new ++ rest) i ≡ at from i
