@@ -1,5 +1,5 @@
 -- Rows of words: a word that is written is the change of the state at one place.
-use Rattle.std.proofs.Common.{◌≡◌, ℕ, ◌+◌, ◌<◌, ◌≤◌, false, cond, List, ◌++◌, length, take, replicate, set, pos, ◌+ℤ◌, ◌-ℤ◌, sym, refl, ap, ◌∙◌, subst, ap₂, inl, inr, add-zero, arith, w64, to_z}
+use Rattle.std.proofs.Common.{◌≡◌, ℕ, ◌+◌, ◌<◌, ◌≤◌, ◌≢◌, false, cond, List, ◌++◌, length, take, replicate, set, pos, ◌+ℤ◌, ◌-ℤ◌, sym, refl, ap, ◌∙◌, subst, ap₂, inl, inr, add-zero, arith, w64, to_z}
 use mathlib.Core.Path.{fun_ext}
 use lib.ListN.{length-replicate}
 use lib.IntN.{+ℤ_idr}
@@ -37,20 +37,25 @@ module _ {A : Type 0} (n : ℕ) (z : A) where
   pub inside_same : (f g : ℕ → A) → ((i : ℕ) → i < n → f i ≡ g i) → inside n z f ≡ inside n z g
   inside_same f g same = inside_is f (inside n z g) (λ i h. same i h ∙ sym (inside_below g i h)) (λ i h. sym (inside_past g i h))
 
+-- what holds of the words of a row, each with its place, holds after one is written
+pub set_keeps : (P : ℕ → ℕ → Type 0) (row : List ℕ) (i v : ℕ) → i < length row → P i v → ((k : ℕ) → i ≢ k → P k (at row k)) → (k : ℕ) → P k (at (set row i v) k)
+set_keeps P row i v room new old k =
+    elim (cases_eq i k) [
+      | inl p ↦ subst (λ x. P x (at (set row i v) x)) p (subst (P i) (sym (get_or-set_same row i v 0 room)) new)
+      | inr q ↦ subst (P k) (sym (get_or-set_other row i k v 0 (λ e. q (sym e)))) (old k q)
+    ]
+
 -- a word written at i, as a change of what is read at i by c
 module _ {A : Type 0} (n : ℕ) (z : A) (read : ℕ → A) (add : A → ℕ → A) (none : (x : A) → add x 0 ≡ x) where
   pub inside_set : (row : List ℕ) (i v c : ℕ) → i < n → n ≤ length row → read v ≡ add (read (at row i)) c →
       inside n z (λ j. read (at (set row i v) j)) ≡ (λ j. add (inside n z (λ j. read (at row j)) j) (only i c j))
-  inside_set row i v c k room e = inside_is n z _ _ below past
+  inside_set row i v c k room e =
+      inside_is n z _ _
+      (set_keeps (λ j x. j < n → read x ≡ add (inside n z (λ j. read (at row j)) j) (only i c j)) row i v (omega arith)
+      (λ h. rw (only_same i c, inside_below n z (λ j. read (at row j)) i k) e)
+      (λ j q h. rw (only_other i c j q, none (inside n z (λ j. read (at row j)) j), inside_below n z (λ j. read (at row j)) j h) refl))
+      past
     where
-      below : (j : ℕ) → j < n → read (at (set row i v) j) ≡ add (inside n z (λ j. read (at row j)) j) (only i c j)
-      below j h =
-          elim (cases_eq i j) [
-            | inl p ↦ subst (λ x. read (at (set row i v) x) ≡ add (inside n z (λ j. read (at row j)) x) (only i c x)) p
-                (rw (get_or-set_same row i v 0 (omega arith), only_same i c, inside_below n z (λ j. read (at row j)) i k) e)
-            | inr q ↦ rw (get_or-set_other row i j v 0 (λ h. q (sym h)), only_other i c j q, none (inside n z (λ j. read (at row j)) j), inside_below n z (λ j. read (at row j)) j h) refl
-          ]
-
       past : (j : ℕ) → n ≤ j → z ≡ add (inside n z (λ j. read (at row j)) j) (only i c j)
       past j h = sym (ap (add _) (only_other i c j (λ p. omega arith)) ∙ none _ ∙ inside_past n z (λ j. read (at row j)) j h)
 
