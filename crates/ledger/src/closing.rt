@@ -91,7 +91,7 @@ pub(crate) fn whose_off(accounts: &[u64], odd: &[u64], farms: u16) -> Option<Hol
     }
 }
 
-// Copies the first n numbers of a row to the front of another. It is a function since a proof knows nothing of an array in a struct once it was sliced where it stands.
+// Copies the first n numbers of a row to the front of another. It is a function since a proof knows nothing of an array in a struct once it was sliced where it stands. (`cents` copies to and from slices of arrays that stand alone, which need none.)
 #[tactic(auto, using(crate::proofs::Rows::front))]
 fn copy_front(from: &[u64], to: &mut [u64], n: usize)
     requires lent { n ≤ length from.now }
