@@ -1,5 +1,5 @@
 -- Rows of words: a word that is written is the change of the state at one place.
-use Rattle.std.proofs.Common.{◌≡◌, ℕ, ◌+◌, ◌<◌, ◌≤◌, false, cond, List, ◌++◌, length, take, replicate, set, pos, ◌+ℤ◌, ◌-ℤ◌, sym, refl, ap, ◌∙◌, subst, ap₂, inl, inr, add-zero, arith, w64, to_z}
+use Rattle.std.proofs.Common.{◌≡◌, ℕ, ◌+◌, ◌<◌, ◌≤◌, ◌≢◌, false, cond, List, ◌++◌, length, take, replicate, set, pos, ◌+ℤ◌, ◌-ℤ◌, sym, refl, ap, ◌∙◌, subst, ap₂, inl, inr, add-zero, arith, w64, to_z}
 use mathlib.Core.Path.{fun_ext}
 use lib.ListN.{length-replicate}
 use lib.IntN.{+ℤ_idr}
@@ -37,20 +37,25 @@ module _ {A : Type 0} (n : ℕ) (z : A) where
   pub inside_same : (f g : ℕ → A) → ((i : ℕ) → i < n → f i ≡ g i) → inside n z f ≡ inside n z g
   inside_same f g same = inside_is f (inside n z g) (λ i h. same i h ∙ sym (inside_below g i h)) (λ i h. sym (inside_past g i h))
 
+-- what holds of the words of a row, each with its place, holds after one is written
+pub set_keeps : (P : ℕ → ℕ → Type 0) (row : List ℕ) (i v : ℕ) → i < length row → P i v → ((k : ℕ) → i ≢ k → P k (at row k)) → (k : ℕ) → P k (at (set row i v) k)
+set_keeps P row i v room new old k =
+    elim (cases_eq i k) [
+      | inl p ↦ subst (λ x. P x (at (set row i v) x)) p (subst (P i) (sym (get_or-set_same row i v 0 room)) new)
+      | inr q ↦ subst (P k) (sym (get_or-set_other row i k v 0 (λ e. q (sym e)))) (old k q)
+    ]
+
 -- a word written at i, as a change of what is read at i by c
 module _ {A : Type 0} (n : ℕ) (z : A) (read : ℕ → A) (add : A → ℕ → A) (none : (x : A) → add x 0 ≡ x) where
   pub inside_set : (row : List ℕ) (i v c : ℕ) → i < n → n ≤ length row → read v ≡ add (read (at row i)) c →
       inside n z (λ j. read (at (set row i v) j)) ≡ (λ j. add (inside n z (λ j. read (at row j)) j) (only i c j))
-  inside_set row i v c k room e = inside_is n z _ _ below past
+  inside_set row i v c k room e =
+      inside_is n z _ _
+      (set_keeps (λ j x. j < n → read x ≡ add (inside n z (λ j. read (at row j)) j) (only i c j)) row i v (omega arith)
+      (λ h. rw (only_same i c, inside_below n z (λ j. read (at row j)) i k) e)
+      (λ j q h. rw (only_other i c j q, none (inside n z (λ j. read (at row j)) j), inside_below n z (λ j. read (at row j)) j h) refl))
+      past
     where
-      below : (j : ℕ) → j < n → read (at (set row i v) j) ≡ add (inside n z (λ j. read (at row j)) j) (only i c j)
-      below j h =
-          elim (cases_eq i j) [
-            | inl p ↦ subst (λ x. read (at (set row i v) x) ≡ add (inside n z (λ j. read (at row j)) x) (only i c x)) p
-                (rw (get_or-set_same row i v 0 (omega arith), only_same i c, inside_below n z (λ j. read (at row j)) i k) e)
-            | inr q ↦ rw (get_or-set_other row i j v 0 (λ h. q (sym h)), only_other i c j q, none (inside n z (λ j. read (at row j)) j), inside_below n z (λ j. read (at row j)) j h) refl
-          ]
-
       past : (j : ℕ) → n ≤ j → z ≡ add (inside n z (λ j. read (at row j)) j) (only i c j)
       past j h = sym (ap (add _) (only_other i c j (λ p. omega arith)) ∙ none _ ∙ inside_past n z (λ j. read (at row j)) j h)
 
@@ -110,13 +115,19 @@ module _ (l : Line) (accounts odd costs : List ℕ) where
         ∙ odds_same l (once l) (at costs) s.costs (at odd) s.odd l.parts (λ e k. sym (inside_below l.parts 0 (at costs) e k)) (λ j k. sym (inside_below l.farms 0 (at odd) j k)) l.parts (omega arith) i h)
         (λ i h. sym (odds_outside l (once l) s.costs s.odd i (λ e. outside i e h) l.parts ∙ inside_past l.farms 0 (at odd) i h)))
 
+-- rows that agree below the farms and the parts hold the same state
+pub rows_same : (l : Line) (accounts accounts' odd odd' costs costs' : List ℕ) →
+    ((i : ℕ) → i ≤ l.farms → at accounts i ≡ at accounts' i) → ((i : ℕ) → i < l.farms → at odd i ≡ at odd' i) → ((e : ℕ) → e < l.parts → at costs e ≡ at costs' e) →
+    state_of l accounts odd costs ≡ state_of l accounts' odd' costs'
+rows_same l accounts accounts' odd odd' costs costs' a o c =
+    state_same _ _ refl (inside_same l.farms (pos 0) _ _ (λ i h. ap (to_z w64) (a i (omega arith)))) (ap (to_z w64) (a l.farms (omega arith))) (inside_same l.parts 0 _ _ c) (inside_same l.farms 0 _ _ o)
+
 -- rows that agree with others below the farms, and have no costs
 pub cleared_rows : (l : Line) (accounts accounts' odd odd' costs costs' : List ℕ) →
     ((i : ℕ) → i ≤ l.farms → at accounts' i ≡ at accounts i) → ((i : ℕ) → i < l.farms → at odd' i ≡ at odd i) → ((e : ℕ) → e < l.parts → at costs' e ≡ 0) →
     state_of l accounts' odd' costs' ≡ cleared (state_of l accounts odd costs)
 cleared_rows l accounts accounts' odd odd' costs costs' a o c =
-    state_same _ _ refl (inside_same l.farms (pos 0) _ _ (λ i h. ap (to_z w64) (a i (omega arith)))) (ap (to_z w64) (a l.farms (omega arith)))
-    (inside_is l.parts 0 (at costs') (λ _. 0) c (λ _ _. refl)) (inside_same l.farms 0 _ _ o)
+    rows_same l accounts' accounts odd' odd costs' costs' a o (λ _ _. refl) ∙ state_same _ _ refl refl refl (inside_is l.parts 0 (at costs') (λ _. 0) c (λ _ _. refl)) refl
 
 -- what is copied to the front of a row
 pub front : (n : ℕ) (new from rest : List ℕ) → new ≡ take n from → n ≤ length from → (i : ℕ) → i < n → at (new ++ rest) i ≡ at from i

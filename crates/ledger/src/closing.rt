@@ -1,5 +1,5 @@
 // The closing of a year: computed whole, then tested, then booked.
-ghost use Rattle.std.specs.Prelude.{◌≡◌, ℕ, ◌^◌, ◌<◌, ◌≤◌, true, not, ◌||◌, List, length, pos, ◌+ℤ◌, ◌-ℤ◌, neg_ℤ, ◌≤ℤ◌, nat_le, position, zip};
+ghost use Rattle.std.specs.Prelude.{◌≡◌, ℕ, ◌^◌, ◌<◌, ◌≤◌, true, not, ◌||◌, List, length, drop, pos, ◌+ℤ◌, ◌-ℤ◌, neg_ℤ, ◌≤ℤ◌, nat_le, position, zip};
 ghost use Rattle.std.specs.Int.{w64};
 ghost use Rattle.std.proofs.Common.{to_z};
 ghost use Rattle.number.specs.Sum.{sum};
@@ -91,15 +91,15 @@ pub(crate) fn whose_off(accounts: &[u64], odd: &[u64], farms: u16) -> Option<Hol
     }
 }
 
-// The first n numbers of a row, in an array with room for more. (`cents` copies just the farms' counts, into a slice of that length.)
-fn front<const N: usize>(row: &[u64], n: usize) -> [u64; N]
-    requires lent { n ≤ length row.now }
-    requires room { n ≤ N }
-    ensures { (i : ℕ) → i < n → at result i ≡ at row.now i }
+// Copies the first n numbers of a row to the front of another. It is a function since a proof knows nothing of an array in a struct once it was sliced where it stands. (`cents` copies to and from slices of arrays that stand alone, which need none.)
+#[tactic(auto, using(crate::proofs::Rows::front))]
+fn copy_front(from: &[u64], to: &mut [u64], n: usize)
+    requires lent { n ≤ length from.now }
+    requires room { n ≤ length to.old }
+    ensures copied { (i : ℕ) → i < n → at to.new i ≡ at from.now i }
+    ensures rest { drop n to.new ≡ drop n to.old }
 {
-    let mut numbers = [0; N];
-    numbers[..n].copy_from_slice(&row[..n]);
-    numbers
+    to[..n].copy_from_slice(&from[..n]);
 }
 
 // The accounts and the counts of odd cents that a closing would leave, in rows like the ledger's, which are copied as they are.
@@ -119,9 +119,11 @@ impl Ledger<'_, '_, '_> {
         let farms = self.line.size.farms as usize;
         let mut sums = [0; MOST_FARMS as usize];
         let mut books = Books {
-            accounts: front(self.accounts, farms + 1),
-            odd: front(self.odd, farms),
+            accounts: [0; MOST_FARMS as usize + 1],
+            odd: [0; MOST_FARMS as usize],
         };
+        copy_front(self.accounts, &mut books.accounts, farms + 1);
+        copy_front(self.odd, &mut books.odd, farms);
         split_parts(self.line, self.costs, &mut books.odd, &mut sums);
         let total = settle(&sums[..farms], &mut books.accounts);
         (books, total)
@@ -137,8 +139,8 @@ impl Ledger<'_, '_, '_> {
     {
         let farms = self.line.size.farms as usize;
         let parts = self.line.size.parts as usize;
-        self.accounts[..farms + 1].copy_from_slice(&books.accounts[..farms + 1]);
-        self.odd[..farms].copy_from_slice(&books.odd[..farms]);
+        copy_front(&books.accounts, self.accounts, farms + 1);
+        copy_front(&books.odd, self.odd, farms);
         self.costs[..parts].fill(0);
     }
 

@@ -30,8 +30,8 @@ split_parts-requires c =
       asked = record {
         enough = g.fits.costs_room;
         small = g.fits.costs_fit;
-        counts = omega (arith, g.line.now.sound.farms.1, c.front-2.type_inv);
-        low = λ i h. omega (arith, c.front-2.ensures i h, g.fits.odd_fit i h);
+        counts = omega (arith, g.line.now.sound.farms.1, c.copy_front-2.auto.to);
+        low = λ i h. omega (arith, c.copy_front-2.ensures.copied i h, g.fits.odd_fit i h);
       };
       room = g.line.now.sound.farms.1;
       clear = λ i h. get_or-replicate most_farms i 0 0 (omega (arith, g.line.now.sound.farms.1));
@@ -47,8 +47,8 @@ settle-total-requires c =
     let room : n ≤ length c.split_parts.new.sums = omega (arith, g.line.now.sound.farms.1, c.split_parts.auto.sums) in
     let charges = all n c.split_parts.new.sums room ∙ sum_same n _ _ c.split_parts.ensures.cents ∙ closing_adds_up_lem l (once l) (once_fits_lem l g.line.now.sound.used) (at g.costs.now) _ in
     record {
-      room = omega (arith, many n c.split_parts.new.sums room, g.line.now.sound.farms.1, c.front.type_inv);
-      fit = λ i h. let k : i ≤ n = omega (arith, many n c.split_parts.new.sums room) in ap (λ x. in_range (to_z w64 x)) (c.front.ensures i (omega arith)) ∙ g.fits.accounts_fit i k;
+      room = omega (arith, many n c.split_parts.new.sums room, g.line.now.sound.farms.1, c.copy_front.auto.to);
+      fit = λ i h. let k : i ≤ n = omega (arith, many n c.split_parts.new.sums room) in ap (λ x. in_range (to_z w64 x)) (c.copy_front.ensures.copied i (omega arith)) ∙ g.fits.accounts_fit i k;
       small = omega (arith, charges, sum_most m costs_end (at g.costs.now) (λ e h. omega (arith, g.fits.costs_fit e h)), g.line.now.sound.parts.1);
     }
 
@@ -65,15 +65,15 @@ returns c =
     let room : n ≤ length sums = omega (arith, g.line.now.sound.farms.1, c.split_parts.auto.sums) in
     let outside : (i e : ℕ) → n ≤ i → l.uses i e ≡ false = λ i e h. and_left (ltb i n) _ (le-ltb i n h) in
     let paid : (i : ℕ) → i < n → at sums i ≡ charged l (once l) costs odd i m =
-    λ i h. c.split_parts.ensures.cents i h ∙ charged_same l (once l) costs costs _ odd m (λ _ _. refl) c.front-2.ensures m (omega arith) i h in
+    λ i h. c.split_parts.ensures.cents i h ∙ charged_same l (once l) costs costs _ odd m (λ _ _. refl) c.copy_front-2.ensures.copied m (omega arith) i h in
     let counted : (i : ℕ) → i < n → at c.split_parts.new.odd i ≡ odds l (once l) costs odd m i =
-    λ i h. c.split_parts.ensures.counts i h ∙ odds_same l (once l) costs costs _ odd m (λ _ _. refl) c.front-2.ensures m (omega arith) i h in
+    λ i h. c.split_parts.ensures.counts i h ∙ odds_same l (once l) costs costs _ odd m (λ _ _. refl) c.copy_front-2.ensures.copied m (omega arith) i h in
     let total = all n sums room ∙ sum_same n _ _ paid in
     let moved : (i : ℕ) → i < n → account_at c.settle-total.new.accounts i ≡ account_at g.accounts.now i -ℤ pos (charged l (once l) costs odd i m) =
-    λ i h. c.settle-total.ensures.farms i (omega (arith, many n sums room)) ∙ ap₂ (λ x y. to_z w64 x -ℤ pos y) (c.front.ensures i (omega arith)) (get_or-take n sums i 0 h ∙ paid i h) in
+    λ i h. c.settle-total.ensures.farms i (omega (arith, many n sums room)) ∙ ap₂ (λ x y. to_z w64 x -ℤ pos y) (c.copy_front.ensures.copied i (omega arith)) (get_or-take n sums i 0 h ∙ paid i h) in
     let pooled : account_at c.settle-total.new.accounts n ≡ account_at g.accounts.now n +ℤ pos (sum n (λ i. charged l (once l) costs odd i m)) =
-    subst (λ k. account_at c.settle-total.new.accounts k ≡ account_at c.front.result k +ℤ pos (sum k (at (take n sums)))) (many n sums room) c.settle-total.ensures.cooperative
-    ∙ ap₂ (λ x y. to_z w64 x +ℤ pos y) (c.front.ensures n (omega arith)) (sum_same n _ _ (λ i h. get_or-take n sums i 0 h ∙ paid i h)) in
+    subst (λ k. account_at c.settle-total.new.accounts k ≡ account_at c.copy_front.new.to k +ℤ pos (sum k (at (take n sums)))) (many n sums room) c.settle-total.ensures.cooperative
+    ∙ ap₂ (λ x y. to_z w64 x +ℤ pos y) (c.copy_front.ensures.copied n (omega arith)) (sum_same n _ _ (λ i h. get_or-take n sums i 0 h ∙ paid i h)) in
     record {
       total = c.settle-total.ensures.total ∙ total ∙ sum_same n _ _ (same_cents l g.accounts.now g.odd.now g.costs.now outside);
       after = closing_rows l g.accounts.now g.odd.now g.costs.now outside c.settle-total.new.accounts c.split_parts.new.odd moved pooled counted;

@@ -1,10 +1,10 @@
-use Rattle.std.proofs.Common.{◌≡◌, ℕ, ◌+◌, ◌<◌, ◌≤◌, List, ◌++◌, length, take, drop, replicate, rules, ap, ◌∙◌, arith}
+use Rattle.std.proofs.Common.{◌≡◌, ℕ, ◌<◌, ◌≤◌, List, ◌++◌, length, take, drop, replicate, rules, ap, ◌∙◌, arith}
 use Rattle.std.proofs.lemmas.List.{length-take-le}
 use Rattle.line.specs.Held.{held as line_held}
-use Rattle.line.specs.Limits.{most_farms, costs_end}
+use Rattle.line.specs.Limits.{costs_end}
 use Rattle.share.specs.Answer.{at}
 use Rattle.ledger.specs.Room.{CostsFit}
-use Rattle.ledger.proofs.Rows.{cleared_rows, front, filled_zero}
+use Rattle.ledger.proofs.Rows.{cleared_rows, filled_zero}
 use Rattle.ledger.proofs.ledger.Ledger.write.Goals as goal
 
 -- no costs are left
@@ -20,14 +20,8 @@ invariant_of-self-3 c =
     search rules
 
 pub returns-clause-after : goal.returns-clause-after
-unfolding most_farms
 returns-clause-after c =
     let g = c.args.self.now in
     let b = c.args.books.now in
-    let n = g.line.now.size.farms in
-    let accounts_many : n + 1 ≤ length b.accounts = omega (arith, g.line.now.sound.farms.1) in
-    let odd_many : n ≤ length b.odd = omega (arith, g.line.now.sound.farms.1) in
-    cleared_rows (line_held g.line.now) b.accounts _ b.odd _ g.costs.now _
-    (λ i h. front (n + 1) c.copy_from_slice.new.self b.accounts (drop (n + 1) g.accounts.now) c.copy_from_slice.ensures.after accounts_many i (omega arith))
-    (front n c.copy_from_slice-2.new.self b.odd (drop n g.odd.now) c.copy_from_slice-2.ensures.after odd_many)
+    cleared_rows (line_held g.line.now) b.accounts _ b.odd _ g.costs.now _ (λ i h. c.copy_front.ensures.copied i (omega arith)) c.copy_front-2.ensures.copied
     (no_costs g.line.now.size.parts g.costs.now c.fill.new.self g.fits.costs_room (c.fill.ensures.after (λ _ z. z)))
