@@ -11,6 +11,7 @@ use crate::line::Line;
 use crate::refusal::{Lent, Refusal};
 use crate::row::copy_rows;
 use crate::size::Size;
+use std::array;
 
 // The size that the first four bytes tell, where the number of bytes fits it.
 fn sized(bytes: &[u8]) -> Result<Size, Refusal>
@@ -64,16 +65,21 @@ fn first_faulty(bytes: &[u8], size: Size) -> Option<usize>
         .position(|row| is_faulty(row, size.farms))
 }
 
+// The first eight bytes; past the end stand zeros. They are not copied by how many there are, which would be a call for each word.
+fn padded(bytes: &[u8]) -> [u8; 8]
+    ensures { (j : ℕ) → j < 8 → slice_index result j ≡ slice_index bytes.now j }
+{
+    match bytes.first_chunk() {
+        Some(eight) => *eight,
+        None => array::from_fn(|j| bytes.get(j).copied().unwrap_or(0)),
+    }
+}
+
 // The eight bytes from place k on as one word; past the end stand zeros.
 fn word_at(bytes: &[u8], k: usize) -> u64
-    requires { k + 8 < 2 ^ 64 }
     ensures { (i : ℕ) → i < 64 → has result i ≡ in_row 8 bytes.now (8 * k + i) }
 {
-    let from = k.min(bytes.len());
-    let to = (k + 8).min(bytes.len());
-    let mut eight = [0; 8];
-    eight[..to - from].copy_from_slice(&bytes[from..to]);
-    u64::from_le_bytes(eight)
+    u64::from_le_bytes(padded(&bytes[k.min(bytes.len())..]))
 }
 
 // Writes a row of bytes as a row of words.

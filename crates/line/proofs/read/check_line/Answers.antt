@@ -1,6 +1,7 @@
-use Rattle.std.proofs.Common.{◌≡◌, ℕ, ◌-◌, ◌≤◌, List, length, take, drop, Option, Err, Result, sym, ap, ◌∙◌, arith, rules}
+use Rattle.std.proofs.Common.{◌≡◌, ℕ, ◌-◌, ◌<◌, ◌≤◌, Bool, List, length, take, drop, Option, Some, None, Err, Result, sym, ap, ◌∙◌, arith, rules}
 use Rattle.std.proofs.lemmas.List.{take_rest}
 use Rattle.std.proofs.lemmas.Result.{err_from_is_err_and}
+use Rattle.std.proofs.lemmas.Bool.Decides.{nat_tests}
 use Rattle.number.specs.First.{found}
 use Rattle.number.proofs.Positions.{found_none}
 use Rattle.line.specs.declared.refusal.Refusal.{Refusal}
@@ -34,20 +35,27 @@ first_faulty-requires c = let d = measured _ _ (sym c.in_ok-size.ensures) in rec
 fault : (b : List ℕ) (s : Size) (r : Option ℕ) → r ≡ found s.parts (part_faulty s.farms (take (length b - 4) (drop 4 b))) → found s.parts (part_faulty s.farms (drop 4 b)) ≡ r
 fault b s r h = sym (h ∙ ap (λ (xs : List ℕ). found s.parts (part_faulty s.farms xs)) (take_rest b 4))
 
+-- a part that was found is one of the line's
+below : (n : ℕ) (p : ℕ → Bool) (k : ℕ) → found n p ≡ Some k → k < n
+below n p k h = grind (arith, nat_tests)
+
 pub returns-in-Some : goal.returns-in-Some
 returns-in-Some c =
     let b = c.args.bytes.now in
     let s = c.in_ok-size.size in
-    sym (reading_ok b c.args.lent s (sym c.in_ok-size.ensures) ∙ fitting_fault (drop 4 b) _ s c.in-Some.part (fault b s _ c.in-Some.ensures))
+    let is : c.first_faulty.result ≡ Some c.in-Some.part = grind arith in
+    sym (reading_ok b c.args.lent s (sym c.in_ok-size.ensures) ∙ fitting_fault (drop 4 b) _ s c.in-Some.part (fault b s _ c.first_faulty.ensures ∙ is))
 
 pub returns-then-lent-words : goal.returns-then-lent-words
 returns-then-lent-words c =
     let b = c.args.bytes.now in
     let s = c.in_ok-size.size in
-    sym (reading_ok b c.args.lent s (sym c.in_ok-size.ensures) ∙ fitting_short (drop 4 b) _ s (found_none _ _ (fault b s _ c.in_default.ensures)) (omega arith))
+    let is : c.first_faulty.result ≡ None = grind (arith, below) in
+    sym (reading_ok b c.args.lent s (sym c.in_ok-size.ensures) ∙ fitting_short (drop 4 b) _ s (found_none _ _ (fault b s _ c.first_faulty.ensures ∙ is)) (omega arith))
 
 pub returns : goal.returns
 returns c =
     let b = c.args.bytes.now in
     let s = c.in_ok-size.size in
-    sym (reading_ok b c.args.lent s (sym c.in_ok-size.ensures) ∙ fitting_ok (drop 4 b) _ s (found_none _ _ (fault b s _ c.in_default.ensures)) (omega arith))
+    let is : c.first_faulty.result ≡ None = grind (arith, below) in
+    sym (reading_ok b c.args.lent s (sym c.in_ok-size.ensures) ∙ fitting_ok (drop 4 b) _ s (found_none _ _ (fault b s _ c.first_faulty.ensures ∙ is)) (omega arith))
