@@ -1,6 +1,7 @@
-use Rattle.std.proofs.Common.{◌≡◌, ℕ, ◌≤◌, false, ltb, refl, sym, rules, arith}
+use Rattle.std.proofs.Common.{◌≡◌, ℕ, ◌≤◌, false, ltb, List, refl, sym, subst, rules, arith}
 use Rattle.std.proofs.lemmas.Bool.{le-ltb, and_left}
 use Rattle.line.specs.Held.{held}
+use Rattle.line.specs.Line.{Line}
 use Rattle.number.proofs.Along.{along_start, along_turn, along_end}
 use Rattle.share.specs.Answer.{at}
 use Rattle.cents.proofs.Turns.{Upto, Turned, upto_none, upto_more, upto_free, upto_at, room}
@@ -24,8 +25,12 @@ split_part-requires c =
       counts = omega (arith, c.requires.asked.counts);
       cents = omega (arith, c.requires.room);
       count_room = λ i h. (room i h).0;
-      cent_room = λ i h. rw turn.item (room i h).1;
+      cent_room = λ i h. omega (arith, turn.item, (room i h).1);
     }
+
+-- a part's cost is the one that stands in the row
+cost_here : {l : Line} {e x c : ℕ} {odd sums odd' sums' : List ℕ} → Turned l e x odd sums odd' sums' → x ≡ c → Turned l e c odd sums odd' sums'
+cost_here {l} {e} {x} {c} {odd} {sums} {odd'} {sums'} turned is = subst (λ y. Turned l e y odd sums odd' sums') is turned
 
 pub loop-e-preserved-then-cost-gt0 : goal.loop-e-preserved-then-cost-gt0
 loop-e-preserved-then-cost-gt0 c =
@@ -36,7 +41,7 @@ loop-e-preserved-then-cost-gt0 c =
     let turn = along_turn c.loop-e.invariant.1 c.next.new.self c.in-Some.cost c.in-Some.ensures.steps in
     let past : (i : ℕ) → line.size.farms ≤ i → l.uses i e ≡ false = λ k h. and_left (ltb k line.size.farms) _ (le-ltb k line.size.farms h) in
     let turned : Turned l e (at costs e) c.loop-e.odd c.loop-e.sums c.split_part.new.odd c.split_part.new.sums =
-    rw (← turn.item) (record { counts = c.split_part.ensures.counts; cents = c.split_part.ensures.cents }) in
+    cost_here (record { counts = c.split_part.ensures.counts; cents = c.split_part.ensures.cents }) (omega (arith, turn.item)) in
     (((tt, tt), tt), turn.along, rw turn.next (upto_more l costs c.args.odd.now (rw turn.here c.loop-e.invariant.2) past turned))
 
 pub loop-e-preserved : goal.loop-e-preserved
