@@ -18,14 +18,14 @@ use line::refusal::{Holder, Lent, Refusal};
 use number::search::first_from;
 use share::costs::check_costs;
 
-// Splits a part's cost: each user pays the same, and one cent more if it is one of the part's payers. The users' counts are listed in `counts`, whatever stood there.
+// Splits a part's cost: each user pays the same, and one cent more if it is one of the part's payers. The users' counts are listed in `listed`, whatever stood there.
 fn split_part(
     line: &Line,
     part: Part,
     cost: u64,
     odd: &mut [u64],
     sums: &mut [u64],
-    counts: &mut ArrayVec<u64, MOST>,
+    listed: &mut ArrayVec<u64, MOST>,
 )
     requires part { part.0 < line.now.size.parts }
     requires counts { line.now.size.farms ≤ length odd.old }
@@ -35,10 +35,10 @@ fn split_part(
     ensures counts { (i : ℕ) → at odd.new i ≡ odd_after (held line.now) (once (held line.now)) part.0 cost (at odd.old) i }
     ensures cents { (i : ℕ) → at sums.new i ≡ at sums.old i + cents (held line.now) (once (held line.now)) part.0 cost (at odd.old) i }
 {
-    list_counts(line, part, odd, counts);
-    let users = counts.len() as u64;
+    list_counts(line, part, odd, listed);
+    let users = listed.len() as u64;
     let each = cost / users;
-    let mut level = level_of(counts.as_slice(), (cost % users) as usize);
+    let mut level = level_of(listed.as_slice(), (cost % users) as usize);
     // By the farms' numbers: after a zip of both rows' `iter_mut` a proof knows how long they are, and nothing of what was written.
     for i in 0..line.size.farms {
         if line.uses(Farm(i), part) {
@@ -59,11 +59,18 @@ pub fn split_parts(line: &Line, costs: &[u64], odd: &mut [u64], sums: &mut [u64]
     ensures counts_rest { (i : ℕ) → line.now.size.farms ≤ i → at odd.new i ≡ at odd.old i }
     ensures cents_rest { (i : ℕ) → line.now.size.farms ≤ i → at sums.new i ≡ at sums.old i }
 {
-    // one list for all parts: one made for each, and handed back by value, takes longer than a part with few users
-    let mut counts = ArrayVec::new();
+    // where no part has a cost, no list is made
+    if costs[..line.size.parts as usize]
+        .iter()
+        .all(|cost| *cost == 0)
+    {
+        return;
+    }
+    // one list for all parts: making one takes longer than splitting a part with few users
+    let mut listed = ArrayVec::new();
     for (e, cost) in (0..line.size.parts).zip(costs) {
         if *cost > 0 {
-            split_part(line, Part(e), *cost, odd, sums, &mut counts);
+            split_part(line, Part(e), *cost, odd, sums, &mut listed);
         }
     }
 }

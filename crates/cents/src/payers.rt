@@ -34,7 +34,7 @@ pub(crate) struct Level {
     pub(crate) left: usize,
 }
 
-// Two numbers that all counts lie between: the least and the greatest of them.
+// Two numbers that all counts lie between. They are the least and the greatest, so that halving between them is short.
 fn spread(counts: &[u64]) -> (u64, u64)
     ensures least { (j : ℕ) → j < length counts.now → result.0 ≤ at counts.now j }
     ensures most { (j : ℕ) → j < length counts.now → at counts.now j ≤ result.1 }
@@ -49,7 +49,7 @@ fn spread(counts: &[u64]) -> (u64, u64)
 }
 
 // The level at which so many of those with these counts pay one more, found by halving between the least count and the greatest.
-// (The library's `select_nth_unstable` takes up to three times as long where counts stand so that its pivots fall badly.)
+// (The library's `select_nth_unstable` takes three to four times as long where counts stand so that its pivots fall badly.)
 pub(crate) fn level_of(counts: &[u64], more: usize) -> Level
     requires some { more < length counts.now }
     requires few { length counts.now < 2 ^ 16 }
@@ -61,6 +61,7 @@ pub(crate) fn level_of(counts: &[u64], more: usize) -> Level
     while low < high {
         // the first number of the upper half
         let upper = low + (high - low) / 2 + 1;
+        // how many are below it; as a sum, whose bound `few` gives, since `filter` and `count` take twice as long
         let n: usize = counts.iter().map(|count| usize::from(*count < upper)).sum();
         if n <= more {
             low = upper;

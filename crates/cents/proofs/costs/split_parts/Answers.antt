@@ -1,4 +1,5 @@
-use Rattle.std.proofs.Common.{◌≡◌, ℕ, ◌≤◌, false, ltb, List, refl, sym, subst, rules, arith}
+use Rattle.std.proofs.Common.{◌≡◌, ℕ, zero, suc, ◌<◌, ◌≤◌, ◌∙◌, false, ltb, List, length, take, refl, sym, subst, rules, arith}
+use Rattle.std.proofs.lemmas.List.{get_or-take, length-take-le}
 use Rattle.std.proofs.lemmas.Bool.{le-ltb, and_left}
 use Rattle.line.specs.Held.{held}
 use Rattle.line.specs.Line.{Line}
@@ -56,3 +57,23 @@ returns c =
     let all = along_end c.loop-e.invariant.1 c.next.new.self c.requires.asked.enough c.in-None.ensures.steps in
     let up = upto_at (held line) c.args.costs.now c.args.odd.now line.size.parts (sym all) refl refl c.loop-e.invariant.2 in
     record { counts = up.counts; cents = up.cents; counts_rest = up.counts_rest; cents_rest = up.cents_rest }
+
+-- where the first k parts have no cost, nothing of them is split
+upto_free_parts : (l : Line) (costs odd sums : List ℕ) → ((i : ℕ) → i < l.farms → at sums i ≡ 0) → (k : ℕ) → ((e : ℕ) → e < k → at costs e ≡ 0) → Upto l costs odd sums k odd sums
+upto_free_parts l costs odd sums clear zero free = upto_none l costs odd sums clear
+upto_free_parts l costs odd sums clear (suc k) free =
+    upto_at l costs odd (suc k) (omega arith) refl refl (upto_free l costs odd (upto_free_parts l costs odd sums clear k (λ e h. free e (omega arith))) (free k (omega arith)))
+
+-- where none of the first m has, nothing is
+unsplit : (l : Line) (m : ℕ) (costs odd sums : List ℕ) → ((i : ℕ) → i < l.farms → at sums i ≡ 0) → m ≤ length costs → ((e : ℕ) → e < m → at (take m costs) e ≡ 0) → Upto l costs odd sums m odd sums
+unsplit l m costs odd sums clear enough free = upto_free_parts l costs odd sums clear m (λ e h. sym (get_or-take m costs e 0 h) ∙ free e h)
+
+pub returns-then-all-clause-counts : goal.returns-then-all-clause-counts
+returns-then-all-clause-counts c =
+    let long = length-take-le c.args.line.now.size.parts c.args.costs.now c.requires.asked.enough in
+    (unsplit (held c.args.line.now) _ c.args.costs.now c.args.odd.now c.args.sums.now c.requires.clear c.requires.asked.enough (λ e h. search rules)).counts
+
+pub returns-then-all-clause-cents : goal.returns-then-all-clause-cents
+returns-then-all-clause-cents c =
+    let long = length-take-le c.args.line.now.size.parts c.args.costs.now c.requires.asked.enough in
+    (unsplit (held c.args.line.now) _ c.args.costs.now c.args.odd.now c.args.sums.now c.requires.clear c.requires.asked.enough (λ e h. search rules)).cents
