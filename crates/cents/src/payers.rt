@@ -49,7 +49,7 @@ fn spread(counts: &[u64]) -> (u64, u64)
 }
 
 // The level at which so many of those with these counts pay one more, found by halving between the least count and the greatest.
-// (The library's `select_nth_unstable` takes three to four times as long where counts stand so that its pivots fall badly.)
+// (The library's `select_nth_unstable` takes three to five times as long where counts stand so that its pivots fall badly.)
 pub(crate) fn level_of(counts: &[u64], more: usize) -> Level
     requires some { more < length counts.now }
     requires few { length counts.now < 2 ^ 16 }
