@@ -59,7 +59,7 @@ pub fn split_parts(line: &Line, costs: &[u64], odd: &mut [u64], sums: &mut [u64]
     ensures counts_rest { (i : ℕ) → line.now.size.farms ≤ i → at odd.new i ≡ at odd.old i }
     ensures cents_rest { (i : ℕ) → line.now.size.farms ≤ i → at sums.new i ≡ at sums.old i }
 {
-    // where no part has a cost, no list is made
+    // where no part has a cost, the list is not made: to clear it takes as long as such a closing on a tiny line
     if costs[..line.size.parts as usize]
         .iter()
         .all(|cost| *cost == 0)

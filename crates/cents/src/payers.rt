@@ -34,7 +34,7 @@ pub(crate) struct Level {
     pub(crate) left: usize,
 }
 
-// Two numbers that all counts lie between. They are the least and the greatest, so that halving between them is short.
+// Two numbers that all counts lie between. No more is promised: that they are the least and the greatest makes halving between them short, and changes no answer.
 fn spread(counts: &[u64]) -> (u64, u64)
     ensures least { (j : ℕ) → j < length counts.now → result.0 ≤ at counts.now j }
     ensures most { (j : ℕ) → j < length counts.now → at counts.now j ≤ result.1 }
